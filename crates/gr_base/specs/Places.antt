@@ -1,0 +1,38 @@
+-- Sets of places, as rising lists.
+use Rattle.std.specs.Prelude.{ℕ, zero, suc, ◌+◌, ◌^◌, ◌<◌, Bool, ◌==◌, not, nat_lt, nat_le, if◌then◌else◌, List, [], ◌∷◌, Option, slice_get}
+use Rattle.std.specs.List.{All, filter, find}
+use Rattle.std.specs.Option.{option_or}
+use Rattle.std.specs.Int.{bit_at}
+use Rattle.gr_base.specs.Rising.{RisesBy}
+
+-- Of the k numbers from a on those that pass the test, rising. A set of places is seen so, whatever holds its bits.
+unfoldable pub members_from : (ℕ → Bool) → ℕ → ℕ → List ℕ
+members_from test a zero = []
+members_from test a (suc k) = if test a then a ∷ members_from test (a + 1) k else members_from test (a + 1) k
+
+-- bit p of a word is set
+abbrev pub is_bit : ℕ → ℕ → Bool
+is_bit word p = bit_at word p == 1
+
+-- every set: its places rise, and each is below 64
+pub record IsPlaces (ps : List ℕ) : Type 0 where
+  pub rise : RisesBy (λ p. p) ps
+  pub below : All (λ p. p < 64) ps
+
+-- the word whose set bits are these
+abbrev pub word_of : List ℕ → ℕ
+word_of [] = 0
+word_of (p ∷ ps) = 2 ^ p + word_of ps
+
+-- a rising list with one more place
+abbrev pub with_place : List ℕ → ℕ → List ℕ
+with_place [] p = p ∷ []
+with_place (q ∷ qs) p = if nat_lt p q then p ∷ q ∷ qs else (if nat_lt q p then q ∷ with_place qs p else q ∷ qs)
+
+-- a list without a place
+abbrev pub without_place : List ℕ → ℕ → List ℕ
+without_place ps p = filter (λ q. not (q == p)) ps
+
+-- the first place from one on in ring order: the first that is not below it, or else the first of all
+abbrev pub first_from : List ℕ → ℕ → Option ℕ
+first_from ps start = option_or (find (λ q. nat_le start q) ps) (slice_get ps 0)
