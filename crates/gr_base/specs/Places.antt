@@ -1,6 +1,6 @@
 -- Sets of places, as rising lists.
-use Rattle.std.specs.Prelude.{ℕ, zero, suc, ◌+◌, ◌^◌, ◌<◌, Bool, ◌==◌, not, nat_lt, nat_le, if◌then◌else◌, List, [], ◌∷◌, Option, slice_get}
-use Rattle.std.specs.List.{All, filter, find}
+use Rattle.std.specs.Prelude.{ℕ, zero, suc, ◌+◌, ◌^◌, ◌<◌, Bool, ◌==◌, not, nat_lt, nat_le, if◌then◌else◌, List, [], ◌∷◌, ◌++◌, Option, slice_get}
+use Rattle.std.specs.List.{All, filter, find, range_with_len}
 use Rattle.std.specs.Option.{option_or}
 use Rattle.std.specs.Int.{bit_at}
 use Rattle.gr_base.specs.Rising.{RisesBy}
@@ -36,3 +36,11 @@ without_place ps p = filter (λ q. not (q == p)) ps
 -- the first place from one on in ring order: the first that is not below it, or else the first of all
 abbrev pub first_from : List ℕ → ℕ → Option ℕ
 first_from ps start = option_or (find (λ q. nat_le start q) ps) (slice_get ps 0)
+
+-- the members of a rising list in ring order after m, without m
+abbrev pub ring : ℕ → List ℕ → List ℕ
+ring m ps = filter (λ q. nat_lt m q) ps ++ filter (λ q. nat_lt q m) ps
+
+-- the places below a count
+abbrev pub below : ℕ → List ℕ
+below count = range_with_len 0 count

@@ -1,7 +1,7 @@
 ghost use Rattle.std.specs.Prelude.{◌≡◌, ◌<◌, ◌≤◌, ◌↔◌, [], length, IsTrue, IsNone};
-ghost use Rattle.std.specs.List.{Contains, range_with_len};
+ghost use Rattle.std.specs.List.{Contains};
 ghost use Rattle.gr_base.specs.Rising.{has as is_in};
-ghost use Rattle.gr_base.specs.Places.{IsPlaces, with_place, without_place, first_from};
+ghost use Rattle.gr_base.specs.Places.{IsPlaces, below, with_place, without_place, first_from};
 
 use std::marker::Model;
 
@@ -39,7 +39,7 @@ impl PlaceSet {
     /// The places below `count`.
     pub fn all(count: u8) -> PlaceSet
         requires { count ≤ 64 }
-        ensures { result ≡ range_with_len 0 count }
+        ensures { result ≡ below count }
     {
         if count == 0 {
             PlaceSet { bits: 0 }
