@@ -1,0 +1,3 @@
+pub mod LastRound
+pub mod Permuted
+pub mod Totals

@@ -1,0 +1,4 @@
+pub mod Laws
+pub mod Program
+pub mod Result
+pub mod Rounds
