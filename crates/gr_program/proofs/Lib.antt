@@ -1,3 +1,4 @@
 pub mod LastRound
 pub mod Permuted
 pub mod Totals
+pub mod Recompute
