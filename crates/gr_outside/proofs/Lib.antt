@@ -1,0 +1,5 @@
+pub mod Gains
+pub mod Loaded
+pub mod NamedFiles
+pub mod Prefixes
+pub mod Written
