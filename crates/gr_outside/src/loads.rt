@@ -5,10 +5,10 @@ ghost use Rattle.gr_outside.specs.Causes.{Counts};
 use crate::LoadFault;
 
 /// A load of more bytes is a long one.
-pub const LONGEST: usize = 268435456;
+pub(crate) const LONGEST: usize = 268435456;
 
 /// A count, one higher where something happened.
-pub fn count_if(count: u64, happened: bool) -> u64
+pub(crate) fn count_if(count: u64, happened: bool) -> u64
     ensures { Counts (IsTrue happened) count result }
 {
     if happened {
@@ -19,7 +19,7 @@ pub fn count_if(count: u64, happened: bool) -> u64
 }
 
 /// Copies bytes, and no more than one past the limit.
-pub fn take_up_to(bytes: &[u8], limit: usize, into: &mut Vec<u8>) -> Result<(), LoadFault>
+pub(crate) fn take_up_to(bytes: &[u8], limit: usize, into: &mut Vec<u8>) -> Result<(), LoadFault>
     requires empty { into.old.items ≡ [] }
     requires limit { limit + 1 < 2 ^ 64 }
     ensures whole { OnOk result ((length into.new.items ≤ limit) × (into.new.items ≡ bytes.now)) }

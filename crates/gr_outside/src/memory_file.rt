@@ -9,7 +9,7 @@ use std::marker::Model;
 
 /// A file in memory. Contracts see its name and its bytes.
 #[derive(Debug, Drop)]
-pub struct MemoryFile {
+pub(crate) struct MemoryFile {
     name: String,
     bytes: Vec<u8>,
 }
@@ -23,7 +23,7 @@ impl Model for MemoryFile {
 }
 
 impl MemoryFile {
-    pub fn new(alloc: Global, name: &str, bytes: &[u8]) -> Result<MemoryFile, AllocError>
+    pub(crate) fn new(alloc: Global, name: &str, bytes: &[u8]) -> Result<MemoryFile, AllocError>
         ensures { IfOk result (λ f. f ≡ (name.now, bytes.now)) }
     {
         Ok(MemoryFile {
@@ -32,25 +32,25 @@ impl MemoryFile {
         })
     }
 
-    pub fn has_name(&self, name: &str) -> bool
+    pub(crate) fn has_name(&self, name: &str) -> bool
         ensures { result ≡ bytes_eq self.now.0 name.now }
     {
         self.name.as_str() == name
     }
 
-    pub fn bytes(&self) -> &[u8]
+    pub(crate) fn bytes(&self) -> &[u8]
         ensures { result.now ≡ self.now.1 }
     {
         &self.bytes
     }
 
-    pub fn set_bytes(&mut self, bytes: Vec<u8>)
+    pub(crate) fn set_bytes(&mut self, bytes: Vec<u8>)
         ensures { self.new ≡ (self.old.0, bytes.items) }
     {
         self.bytes = bytes;
     }
 
-    pub fn extend(&mut self, bytes: &[u8]) -> Result<(), AllocError>
+    pub(crate) fn extend(&mut self, bytes: &[u8]) -> Result<(), AllocError>
         ensures ok { OnOk result (self.new ≡ (self.old.0, self.old.1 ++ bytes.now)) }
         ensures err { OnErr result (self.new ≡ self.old) }
     {
@@ -59,14 +59,14 @@ impl MemoryFile {
 }
 
 /// Where the file of a name stands.
-pub fn position_of(files: &[MemoryFile], name: &str) -> Option<usize>
+pub(crate) fn position_of(files: &[MemoryFile], name: &str) -> Option<usize>
     ensures { result ≡ position (is_named name.now) files.now }
 {
     files.iter().position(|file| file.has_name(name))
 }
 
 /// Adds a file, or replaces its bytes.
-pub fn put_file(
+pub(crate) fn put_file(
     alloc: Global,
     files: &mut Vec<MemoryFile>,
     name: &str,
@@ -89,7 +89,7 @@ pub fn put_file(
 }
 
 /// Adds bytes at the end of a file, which is made where it is absent.
-pub fn extend_file(
+pub(crate) fn extend_file(
     alloc: Global,
     files: &mut Vec<MemoryFile>,
     name: &str,

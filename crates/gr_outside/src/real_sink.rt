@@ -33,7 +33,7 @@ impl<W: Write + Drop> RealSink<W> {
 }
 
 /// Writes some of the bytes, and flushes. `None` where either fails, or where no byte of some was taken.
-pub fn write_some<W: Write>(writer: &mut W, bytes: &[u8]) -> Option<usize>
+pub(crate) fn write_some<W: Write>(writer: &mut W, bytes: &[u8]) -> Option<usize>
     ensures within { IfSome result (λ n. n ≤ length bytes.now) }
     ensures some { IfSome result (λ n. 0 < length bytes.now → 0 < n) }
 {
