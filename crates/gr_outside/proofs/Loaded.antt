@@ -1,6 +1,6 @@
 -- What files tell after a load.
 use Rattle.std.proofs.Common.{◌≡◌, Bool, false, List, [], length, ◌≤◌, ℕ, Option, Some, refl, sym, ap, ◌∙◌, subst}
-use Rattle.std.specs.Prelude.{Result, Ok, Err, OnOk, OnErr, IsErrOf, IsErrAnd, if◌then◌else◌, unwrap_or}
+use Rattle.std.specs.Prelude.{Result, Ok, Err, OnOk, OnErr, IsErrOf, if◌then◌else◌, unwrap_or}
 use Rattle.gr_outside.specs.declared.faults.LoadFault.{LoadFault}
 use Rattle.gr_outside.specs.declared.faults.LoadFault.TheVariants.{Failed, TooLong, OutOfMemory}
 use Rattle.std.specs.Io.{StartsWith}

@@ -1,5 +1,5 @@
 -- First parts of lists.
-use Rattle.std.proofs.Common.{◌≡◌, ◌≤◌, ℕ, List, [], length, take, refl, sym, ap, ◌∙◌, subst}
+use Rattle.std.proofs.Common.{◌≡◌, ◌≤◌, ℕ, List, [], length, take, refl, sym, ap, subst}
 use Rattle.std.proofs.lemmas.List.{length-take-le}
 use Rattle.std.specs.Io.{StartsWith}
 

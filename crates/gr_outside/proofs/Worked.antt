@@ -1,6 +1,5 @@
 -- Worked cases of the definitions.
-use Rattle.std.proofs.Common.{◌≡◌, ◌^◌, ◌-◌, ℕ, List, [], ◌∷◌, Some, None, Err, refl}
-use Rattle.gr_outside.specs.declared.faults.LoadFault.{LoadFault}
+use Rattle.std.proofs.Common.{◌≡◌, ◌^◌, ◌-◌, List, [], ◌∷◌, Some, None, Err, refl}
 use Rattle.gr_outside.specs.declared.faults.LoadFault.TheVariants.{Failed, TooLong}
 use Rattle.gr_outside.specs.Causes.{one_more}
 use Rattle.gr_outside.specs.Files.{Named, FilesTold, bytes_of, after_load}

@@ -67,14 +67,14 @@ pub record CountsWrite {T : Type 0} (before after : FilesSeen) (result : Result 
   pub loads : after.load_faults ≡ before.load_faults
   pub long : after.long_loads ≡ before.long_loads
 
--- the named file is empty, and begun
-pub record MakesEmpty (before : FilesTold) (name : List ℕ) (after : FilesTold) : Type 0 where
-  pub empty : bytes_of after.files name ≡ Some []
+-- the named file is begun and has these bytes, and all else is as before
+pub record HasWritten (before : FilesTold) (name bytes : List ℕ) (after : FilesTold) : Type 0 where
+  pub written : bytes_of after.files name ≡ Some bytes
   pub others : KeepsOthers name before.files after.files
   pub begun : after.begun ≡ Some name
   pub failed : after.failed ≡ before.failed
 
--- no file is begun; nothing is said of the named one
+-- no file is begun, and all but the named one is as before
 pub record LetsGo (before : FilesTold) (name : List ℕ) (after : FilesTold) : Type 0 where
   pub others : KeepsOthers name before.files after.files
   pub begun : after.begun ≡ None
@@ -83,7 +83,7 @@ pub record LetsGo (before : FilesTold) (name : List ℕ) (after : FilesTold) : T
 -- one call of `begin`
 pub record Begins {T : Type 0} (before after : FilesSeen) (name : List ℕ) (result : Result T file.FileFault) : Type 0 where
   pub begun : after.is_begun ≡ is_ok result
-  pub made : OnOk result (IfSome before.told (λ t. IsSomeAnd after.told (MakesEmpty t name)))
+  pub made : OnOk result (IfSome before.told (λ t. IsSomeAnd after.told (HasWritten t name [])))
   pub refused : OnErr result (IfSome before.told (λ t. IsSomeAnd after.told (LetsGo t name)))
   pub counts : CountsWrite before after result
 

@@ -77,14 +77,17 @@ mod tests {
         files.begin(alloc, "written.tmp")?;
         assert_eq!(rt; files.append(alloc, &text)?, text.len());
         for (name, limit, answer, count) in [
-            ("written.tmp", 200000, "whole", 200000),
+            ("written.tmp", 200000u32, "whole", 200000),
             ("written.tmp", 199999, "long", 200000),
             ("written.tmp", 70000, "long", 70001),
             ("absent.tmp", 200000, "failed", 0),
             (".", 200000, "failed", 0),
         ] {
             let mut into = Vec::new(alloc);
-            assert_eq!(rt; word(&files.load(alloc, name, limit, &mut into)), answer);
+            assert_eq!(rt;
+                word(&files.load(alloc, name, limit as usize, &mut into)),
+                answer
+            );
             assert_eq!(rt; into.len(), count);
         }
         fs::remove_file(&rt, "written.tmp")?;

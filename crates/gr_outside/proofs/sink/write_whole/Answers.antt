@@ -1,4 +1,4 @@
-use Rattle.std.proofs.Common.{arith, rules}
+use Rattle.std.proofs.Common.{rules}
 use Rattle.gr_outside.proofs.Gains.{Gains-more}
 use Rattle.gr_outside.proofs.sink.write_whole.Goals as goal
 

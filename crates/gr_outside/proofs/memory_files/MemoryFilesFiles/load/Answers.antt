@@ -1,4 +1,4 @@
-use Rattle.std.proofs.Common.{◌≡◌, List, ℕ, Some, sym, ap, ◌∙◌, rules, inl, inr, Contains, subst}
+use Rattle.std.proofs.Common.{List, ℕ, Some, sym, ap, ◌∙◌, rules, inl, inr, Contains, subst}
 use Rattle.gr_outside.specs.Files.{bytes_of}
 use Rattle.gr_outside.proofs.Loaded.{told-other, whole-found, part-found}
 use Rattle.gr_outside.proofs.NamedFiles.{bytes_of-read, bytes_of-absent}
