@@ -1,3 +1,6 @@
+pub mod FirstFault
+pub mod Lines
 pub mod Numbers
+pub mod Prefixes
 pub mod Splitting
 pub mod Summing

@@ -1,5 +1,5 @@
 -- The graph that a text says, or the fault of its first faulty line.
-use Rattle.std.specs.Prelude.{ℕ, ◌+◌, Bool, ◌==◌, ◌||◌, not, nat_lt, if◌then◌else◌, List, [], ◌∷◌, length, map, take, slice_get, slice_index_or, Option, Some, None}
+use Rattle.std.specs.Prelude.{ℕ, ◌+◌, ◌≤◌, Bool, ◌==◌, ◌||◌, not, nat_lt, if◌then◌else◌, List, [], ◌∷◌, length, map, take, slice_get, slice_index_or, Option, Some, None}
 use Rattle.std.specs.List.{slice_split, flat_map, filter_map, fold, range_with_len}
 use Rattle.std.specs.Option.{option_or}
 use Rattle.std.specs.Ordering.{nat_cmp}
@@ -19,6 +19,11 @@ max_edges = 4194304
 
 abbrev pub max_vertices : ℕ
 max_vertices = 1048576
+
+-- a graph's edges and ids are no more than that
+pub record IsWithinLimits (edges : List base.Edge) (ids : List ℕ) : Type 0 where
+  pub few_edges : length edges ≤ max_edges
+  pub few_vertices : length ids ≤ max_vertices
 
 -- what the lines of a text say: the pieces between line ends
 abbrev pub lines_of : List ℕ → List LineFound

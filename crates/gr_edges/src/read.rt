@@ -1,10 +1,10 @@
-ghost use Rattle.std.specs.Prelude.{◌≡◌, ◌≤◌, ◌⊎◌, ◌++◌, length, Some, None, OnOk, IfOk, IfErr};
+ghost use Rattle.std.specs.Prelude.{◌≡◌, ◌≤◌, ◌⊎◌, [], ◌++◌, length, Some, None, OnOk, IfOk, IfErr};
 ghost use Rattle.std.specs.List.{position_or_len};
 ghost use Rattle.std.specs.Option.{option_or};
 ghost use Rattle.std.specs.Ordering.{nat_cmp};
 ghost use Rattle.std.specs.BTreeSet.{insert_key};
 ghost use Rattle.gr_edges.specs.Fields.{is_line_end};
-ghost use Rattle.gr_edges.specs.Reading.{lines_of, edges_of, vertices_of, edges_of_line, ids_of_line, joined, both_ways, fault_of_line, fault_of_size, first_fault, max_edges, max_vertices};
+ghost use Rattle.gr_edges.specs.Reading.{lines_of, edges_of, vertices_of, edges_of_line, ids_of_line, joined, both_ways, fault_of_line, fault_of_size, first_fault, ids_of, max_edges, max_vertices, IsWithinLimits};
 
 use crate::build::graph_of;
 use crate::fault::GraphFault;
@@ -33,20 +33,39 @@ pub fn read_graph(alloc: Global, bytes: &[u8], undirected: bool) -> Result<Graph
 {
     let mut edges = Items::new(alloc);
     let mut ids = BTreeSet::new(alloc);
+    take_lines(&mut edges, &mut ids, undirected, bytes)?;
+    let graph = graph_of(alloc, edges, &ids)?;
+    Ok(graph)
+}
+
+// Takes what the lines of a text say, up to the first faulty one.
+fn take_lines(
+    edges: &mut Items<Edge>,
+    ids: &mut BTreeSet<u32>,
+    undirected: bool,
+    bytes: &[u8],
+) -> Result<(), GraphFault>
+    requires small { length bytes.now ≤ 268435456 }
+    requires no_edge { edges.old ≡ [] }
+    requires no_id { ids.old.keys ≡ [] }
+    ensures accepted { OnOk result (first_fault undirected (lines_of bytes.now) ≡ None) }
+    ensures edges { OnOk result (edges.new ≡ edges_of undirected (lines_of bytes.now)) }
+    ensures ids { OnOk result (ids.new.keys ≡ ids_of (lines_of bytes.now)) }
+    ensures few { OnOk result (IsWithinLimits edges.new ids.new.keys) }
+    ensures refused { IfErr result (λ fault. (fault ≡ GraphFault.OutOfMemory) ⊎ (first_fault undirected (lines_of bytes.now) ≡ Some fault)) }
+{
     let mut rest = bytes;
-    let mut number: u32 = 1;
+    let mut done: u32 = 0;
     'lines: loop {
         let len = line_len(rest);
         let line = read_line(&rest[..len]);
-        take_line(&mut edges, &mut ids, number, undirected, line)?;
+        take_line(edges, ids, done + 1, undirected, line)?;
         if len == rest.len() {
-            break;
+            return Ok(());
         }
         rest = &rest[len + 1..];
-        number += 1;
+        done += 1;
     }
-    let graph = graph_of(alloc, edges, &ids)?;
-    Ok(graph)
 }
 
 // How many bytes stand before the first line end.
@@ -73,7 +92,8 @@ fn take_line(
     ensures edges { OnOk result (edges.new ≡ edges.old ++ edges_of_line undirected line) }
     ensures ids { OnOk result (ids.new.keys ≡ joined ids.old.keys (ids_of_line line)) }
     ensures sound { OnOk result (fault_of_line number line ≡ None) }
-    ensures few { OnOk result (fault_of_size max_edges max_vertices number edges.new ids.new.keys ≡ None) }
+    ensures size { OnOk result (fault_of_size max_edges max_vertices number edges.new ids.new.keys ≡ None) }
+    ensures few { OnOk result (IsWithinLimits edges.new ids.new.keys) }
     ensures err { IfErr result (λ fault. (fault ≡ GraphFault.OutOfMemory) ⊎ (option_or (fault_of_line number line)
         (fault_of_size max_edges max_vertices number (edges.old ++ edges_of_line undirected line) (joined ids.old.keys (ids_of_line line))) ≡ Some fault)) }
 {
@@ -158,6 +178,7 @@ fn insert(ids: &mut BTreeSet<u32>, v: u32) -> Result<(), OutOfMemory>
 
 fn check_size(number: u32, edges: &Items<Edge>, ids: &BTreeSet<u32>) -> Result<(), GraphFault>
     ensures ok { OnOk result (fault_of_size max_edges max_vertices number edges.now ids.now.keys ≡ None) }
+    ensures few { OnOk result (IsWithinLimits edges.now ids.now.keys) }
     ensures err { IfErr result (λ fault. fault_of_size max_edges max_vertices number edges.now ids.now.keys ≡ Some fault) }
 {
     if edges.len() > MAX_EDGES {
