@@ -1,11 +1,10 @@
 -- The first that a function finds in a range of numbers.
-use Rattle.std.proofs.Common.{◌≡◌, ℕ, zero, suc, ◌+◌, ◌<◌, ◌≤◌, List, [], ◌∷◌, Option, Some, None, refl, sym, ap, ◌∙◌, arith, inl, inr}
+use Rattle.std.proofs.Common.{◌≡◌, ℕ, zero, suc, ◌+◌, ◌<◌, ◌≤◌, Option, Some, None, refl, ap, ◌∙◌, arith, inl, inr}
 use Rattle.std.specs.Prelude.{slice_get}
 use Rattle.std.specs.List.{filter_map, cons_option, range_with_len}
 use Rattle.std.proofs.lemmas.Bool.{cases_eq}
 
 module _ {Y : Type 0} (f : ℕ → Option Y) where
-
   pub none-found : (a n : ℕ) → ((i : ℕ) → a ≤ i → i < a + n → f i ≡ None) → slice_get (filter_map f (range_with_len a n)) 0 ≡ None
   none-found a zero none = refl
   none-found a (suc n) none =

@@ -1,4 +1,7 @@
+pub mod Degrees
+pub mod Ends
 pub mod FirstFault
+pub mod Ids
 pub mod Lines
 pub mod Numbers
 pub mod Prefixes

@@ -9,7 +9,7 @@ use Rattle.gr_edges.specs.declared.graph.VertexInfo.{VertexInfo}
 use Rattle.gr_edges.specs.declared.line.LineFound.{LineFound}
 use Rattle.gr_edges.specs.declared.line.LineFound.TheVariants.{Skipped, Vertex, Edge, TooLarge, Bad}
 use Rattle.gr_edges.specs.declared.fault.GraphFault.{GraphFault}
-use Rattle.gr_edges.specs.declared.fault.GraphFault.TheVariants.{NumberTooLarge, BadLine, TooManyEdges, TooManyVertices, OutOfMemory}
+use Rattle.gr_edges.specs.declared.fault.GraphFault.TheVariants.{NumberTooLarge, BadLine, TooManyEdges, TooManyVertices}
 use Rattle.gr_edges.specs.Fields.{is_line_end, line_of}
 use Rattle.gr_edges.specs.Vertices.{vertex_of}
 

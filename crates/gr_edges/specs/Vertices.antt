@@ -1,5 +1,5 @@
 -- The vertices of a graph: rising ids, with the degrees that the edges give them.
-use Rattle.std.specs.Prelude.{◌≡◌, ℕ, true, List, map}
+use Rattle.std.specs.Prelude.{◌≡◌, ℕ, ◌+◌, ◌==◌, true, if◌then◌else◌, List, map}
 use Rattle.gr_base.specs.declared.records.Edge.{Edge}
 use Rattle.gr_base.specs.Degrees.{indegree, outdegree}
 use Rattle.gr_base.specs.Rising.{has}
@@ -15,6 +15,13 @@ ids vertices = map id_of vertices
 -- the vertex of an id, with its degrees
 abbrev pub vertex_of : List Edge → ℕ → VertexInfo
 vertex_of edges v = record { id = v; indeg = indegree edges v; outdeg = outdegree edges v }
+
+-- a vertex with one more edge that begins, or ends, at an id
+abbrev pub with_source : ℕ → VertexInfo → VertexInfo
+with_source id v = record { id = v.id; indeg = v.indeg; outdeg = v.outdeg + (if v.id == id then 1 else 0) }
+
+abbrev pub with_target : ℕ → VertexInfo → VertexInfo
+with_target id v = record { id = v.id; indeg = v.indeg + (if v.id == id then 1 else 0); outdeg = v.outdeg }
 
 -- a vertex's degrees are those of its id
 pub record HasDegrees (edges : List Edge) (v : VertexInfo) : Type 0 where

@@ -1,7 +1,7 @@
-ghost use Rattle.std.specs.Prelude.{◌≡◌, ◌<◌, ◌^◌, true, [], length, map, nat_lt, slice_index_or, IfOk};
+ghost use Rattle.std.specs.Prelude.{◌≡◌, ◌+◌, ◌<◌, ◌^◌, true, [], length, map, nat_lt, slice_index_or, IfOk};
 ghost use Rattle.std.specs.List.{All, prefix_len};
 ghost use Rattle.gr_base.specs.Rising.{RisesBy, has};
-ghost use Rattle.gr_edges.specs.Vertices.{id_of, ids, vertex_of, HasEnds};
+ghost use Rattle.gr_edges.specs.Vertices.{id_of, ids, vertex_of, with_source, with_target, HasEnds};
 
 use crate::graph::{Graph, VertexInfo};
 use gr_base::{Edge, Items, OutOfMemory};
@@ -52,11 +52,41 @@ fn count_degrees(vertices: &mut [VertexInfo], edges: &[Edge])
     ensures { vertices.new ≡ map (vertex_of edges.now) (ids vertices.old) }
 {
     for edge in edges {
-        let src = place_of(vertices, edge.src);
-        vertices[src].outdeg += 1;
-        let dst = place_of(vertices, edge.dst);
-        vertices[dst].indeg += 1;
+        count_source(vertices, edge.src);
+        count_target(vertices, edge.dst);
     }
+}
+
+// One more edge begins at a vertex.
+fn count_source(vertices: &mut [VertexInfo], id: u32)
+    requires rise { RisesBy id_of vertices.old }
+    requires stands { has (ids vertices.old) id ≡ true }
+    requires room { All (λ v. v.outdeg + 1 < 2 ^ 32) vertices.old }
+    ensures { vertices.new ≡ map (with_source id) vertices.old }
+{
+    let place = place_of(vertices, id);
+    let vertex = vertices[place];
+    vertices[place] = VertexInfo {
+        outdeg: vertex.outdeg + 1,
+        id: vertex.id,
+        indeg: vertex.indeg,
+    };
+}
+
+// One more edge ends at a vertex.
+fn count_target(vertices: &mut [VertexInfo], id: u32)
+    requires rise { RisesBy id_of vertices.old }
+    requires stands { has (ids vertices.old) id ≡ true }
+    requires room { All (λ v. v.indeg + 1 < 2 ^ 32) vertices.old }
+    ensures { vertices.new ≡ map (with_target id) vertices.old }
+{
+    let place = place_of(vertices, id);
+    let vertex = vertices[place];
+    vertices[place] = VertexInfo {
+        indeg: vertex.indeg + 1,
+        id: vertex.id,
+        outdeg: vertex.outdeg,
+    };
 }
 
 // Where the vertex of an id stands.

@@ -15,6 +15,7 @@ use std::alloc::Global;
 use std::collections::BTreeSet;
 
 const MAX_EDGES: usize = 4194304;
+
 const MAX_VERTICES: usize = 1048576;
 
 /// Reads a graph, line by line.
@@ -116,11 +117,7 @@ fn check_line(number: u32, line: LineFound) -> Result<(), GraphFault>
     }
 }
 
-fn add_edges(
-    edges: &mut Items<Edge>,
-    undirected: bool,
-    line: LineFound,
-) -> Result<(), OutOfMemory>
+fn add_edges(edges: &mut Items<Edge>, undirected: bool, line: LineFound) -> Result<(), OutOfMemory>
     ensures { OnOk result (edges.new ≡ edges.old ++ edges_of_line undirected line) }
 {
     match line {
@@ -134,11 +131,7 @@ fn add_edges(
     }
 }
 
-fn add_both_ways(
-    edges: &mut Items<Edge>,
-    undirected: bool,
-    edge: Edge,
-) -> Result<(), OutOfMemory>
+fn add_both_ways(edges: &mut Items<Edge>, undirected: bool, edge: Edge) -> Result<(), OutOfMemory>
     ensures { OnOk result (edges.new ≡ edges.old ++ both_ways undirected edge) }
 {
     edges.push(edge)?;
@@ -156,9 +149,7 @@ fn add_ids(ids: &mut BTreeSet<u32>, line: LineFound) -> Result<(), OutOfMemory>
     ensures { OnOk result (ids.new.keys ≡ joined ids.old.keys (ids_of_line line)) }
 {
     match line {
-        LineFound::Vertex(v) => {
-            insert(ids, v)
-        }
+        LineFound::Vertex(v) => { insert(ids, v) }
         LineFound::Edge(src, dst, _) => {
             insert(ids, src)?;
             insert(ids, dst)

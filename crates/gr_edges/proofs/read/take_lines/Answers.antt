@@ -19,7 +19,10 @@ returns-in_err-take_line c =
     let there = line-there c.lines.rest.now c.line_len-len.result c.line_len-len.ensures.count c.line_len-len.ensures.within in
     let left : c.read_line-line.result ∷ there.0 ≡ drop c.lines.done (lines_of c.args.bytes.now) = ap (λ (l : LineFound). l ∷ there.0) c.read_line-line.ensures ∙ sym there.1 ∙ c.lines.invariant.left in
     rw (p.1, p.2) (record {
-      accepted = tt; edges = tt; ids = tt; few = tt;
+      accepted = tt;
+      edges = tt;
+      ids = tt;
+      few = tt;
       refused = elim c.in_err-take_line.ensures.err [
         | inl no_memory ↦ inl no_memory
         | inr is ↦ inr (fault-found c.args.undirected (lines_of c.args.bytes.now) c.lines.done c.lines.edges c.lines.ids.keys c.lines.invariant.taken c.read_line-line.result there.0 left c.in_err-take_line.field-0.0 is)
