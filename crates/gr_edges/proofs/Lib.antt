@@ -1,3 +1,4 @@
+pub mod Appending
 pub mod Degrees
 pub mod Ends
 pub mod FirstFault
@@ -5,5 +6,7 @@ pub mod Ids
 pub mod Lines
 pub mod Numbers
 pub mod Prefixes
+pub mod Printed
+pub mod ReadBack
 pub mod Splitting
 pub mod Summing
