@@ -8,5 +8,6 @@ pub mod Numbers
 pub mod Prefixes
 pub mod Printed
 pub mod ReadBack
+pub mod Recent
 pub mod Splitting
 pub mod Summing

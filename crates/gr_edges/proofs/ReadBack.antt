@@ -13,7 +13,7 @@ use Rattle.std.proofs.lemmas.List.Elements.{All-append, All-cons}
 use Rattle.std.proofs.lemmas.List.Sums.{fold-append}
 use Rattle.gr_base.specs.declared.records.Edge as base
 use Rattle.gr_base.specs.Rising.{RisesBy, has}
-use Rattle.gr_base.proofs.Rising.{rises-tail, rises-head, keys-rise, none-later}
+use Rattle.gr_base.proofs.Rising.{keys-rise}
 use Rattle.gr_edges.specs.declared.graph.VertexInfo.{VertexInfo}
 use Rattle.gr_edges.specs.declared.line.LineFound.{LineFound}
 use Rattle.gr_edges.specs.declared.line.LineFound.TheVariants.{Skipped, Vertex, Edge}
@@ -22,7 +22,7 @@ use Rattle.gr_edges.specs.Vertices.{id_of, ids, vertex_of, HasDegrees, HasEnds}
 use Rattle.gr_edges.specs.Reading.{lines_of, joined, edges_of_line, ids_of_line, edges_of, ids_of, vertices_of, fault_of_line, fault_of_size, fault_at, first_fault, max_edges, max_vertices, IsWithinLimits}
 use Rattle.gr_edges.specs.Text.{text_of, vertex_line, edge_line, IsReadAs, Has32Bits}
 use Rattle.gr_edges.proofs.FirstFault.{none-found}
-use Rattle.gr_edges.proofs.Ids.{insert-lt, insert-eq, insert-gt}
+use Rattle.gr_edges.proofs.Ids.{insert-lt, insert-eq, insert-gt, insert-present}
 use Rattle.gr_edges.proofs.Printed.{vertex-lines, edge-lines}
 
 -- ---- numbers put among rising ones
@@ -31,23 +31,6 @@ use Rattle.gr_edges.proofs.Printed.{vertex-lines, edge-lines}
 insert-last : (xs : List ℕ) (n : ℕ) → All (λ x. x < n) xs → insert_key nat_cmp xs n ≡ xs ++ n ∷ []
 insert-last [] n above = refl
 insert-last (x ∷ xs) n above = insert-gt n x xs (above 0 x (omega arith)) ∙ ap (λ (ns : List ℕ). x ∷ ns) (insert-last xs n (λ k d lt. above (suc k) d (omega arith)))
-
--- one that stands there
-insert-present : (xs : List ℕ) (n : ℕ) → RisesBy (λ (m : ℕ). m) xs → has xs n ≡ true → insert_key nat_cmp xs n ≡ xs
-insert-present [] n rise there = absurd (cc)
-insert-present (x ∷ xs) n rise there = elim (cases_order n x) [
-  | inl e ↦ insert-eq n x xs e
-  | inr o ↦ elim o [
-    | inl lt ↦
-        let off = (none-later (λ (m : ℕ). m) n x xs (omega arith) (rises-head (λ (m : ℕ). m) x xs rise)).1 in
-        let apart : eqb x n ≡ false = ne_eqb x n (λ e. omega arith) in
-        let none : has (x ∷ xs) n ≡ false = (λ t. apart t || off t) in
-        absurd (cc)
-    | inr gt ↦
-        let apart : eqb x n ≡ false = ne_eqb x n (λ e. omega arith) in
-        insert-gt n x xs gt ∙ ap (λ (ns : List ℕ). x ∷ ns) (insert-present xs n (rises-tail (λ (m : ℕ). m) x xs rise) (sym (ap (λ (b : Bool). b || has xs n) apart) ∙ there))
-  ]
-]
 
 -- rising ones, each after the last
 joined-more : (xs ns : List ℕ) → RisesBy (λ (m : ℕ). m) (xs ++ ns) → joined xs ns ≡ xs ++ ns

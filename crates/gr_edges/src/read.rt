@@ -1,18 +1,16 @@
 ghost use Rattle.std.specs.Prelude.{◌≡◌, ◌≤◌, ◌⊎◌, [], ◌++◌, length, Some, None, OnOk, IfOk, IfErr};
 ghost use Rattle.std.specs.List.{position_or_len};
 ghost use Rattle.std.specs.Option.{option_or};
-ghost use Rattle.std.specs.Ordering.{nat_cmp};
-ghost use Rattle.std.specs.BTreeSet.{insert_key};
 ghost use Rattle.gr_edges.specs.Fields.{is_line_end};
 ghost use Rattle.gr_edges.specs.Reading.{lines_of, edges_of, vertices_of, edges_of_line, ids_of_line, joined, both_ways, fault_of_line, fault_of_size, first_fault, ids_of, max_edges, max_vertices, IsWithinLimits};
 
 use crate::build::graph_of;
 use crate::fault::GraphFault;
 use crate::graph::Graph;
+use crate::id_set::IdSet;
 use crate::line::{LineFound, read_line};
 use gr_base::{Edge, Items, OutOfMemory};
 use std::alloc::Global;
-use std::collections::BTreeSet;
 
 const MAX_EDGES: usize = 4194304;
 
@@ -33,26 +31,27 @@ pub fn read_graph(alloc: Global, bytes: &[u8], undirected: bool) -> Result<Graph
     ensures refused { IfErr result (λ fault. (fault ≡ GraphFault.OutOfMemory) ⊎ (first_fault undirected (lines_of bytes.now) ≡ Some fault)) }
 {
     let mut edges = Items::new(alloc);
-    let mut ids = BTreeSet::new(alloc);
+    let slots = (bytes.len() / 8).clamp(1, MAX_VERTICES);
+    let mut ids = IdSet::new(alloc, slots)?;
     take_lines(&mut edges, &mut ids, undirected, bytes)?;
-    let graph = graph_of(alloc, edges, &ids)?;
+    let graph = graph_of(alloc, edges, ids.numbers())?;
     Ok(graph)
 }
 
 // Takes what the lines of a text say, up to the first faulty one.
 fn take_lines(
     edges: &mut Items<Edge>,
-    ids: &mut BTreeSet<u32>,
+    ids: &mut IdSet,
     undirected: bool,
     bytes: &[u8],
 ) -> Result<(), GraphFault>
     requires small { length bytes.now ≤ 268435456 }
     requires no_edge { edges.old ≡ [] }
-    requires no_id { ids.old.keys ≡ [] }
+    requires no_id { ids.old ≡ [] }
     ensures accepted { OnOk result (first_fault undirected (lines_of bytes.now) ≡ None) }
     ensures edges { OnOk result (edges.new ≡ edges_of undirected (lines_of bytes.now)) }
-    ensures ids { OnOk result (ids.new.keys ≡ ids_of (lines_of bytes.now)) }
-    ensures few { OnOk result (IsWithinLimits edges.new ids.new.keys) }
+    ensures ids { OnOk result (ids.new ≡ ids_of (lines_of bytes.now)) }
+    ensures few { OnOk result (IsWithinLimits edges.new ids.new) }
     ensures refused { IfErr result (λ fault. (fault ≡ GraphFault.OutOfMemory) ⊎ (first_fault undirected (lines_of bytes.now) ≡ Some fault)) }
 {
     let mut rest = bytes;
@@ -85,18 +84,18 @@ fn line_len(text: &[u8]) -> usize
 // Takes what the line with this number says.
 fn take_line(
     edges: &mut Items<Edge>,
-    ids: &mut BTreeSet<u32>,
+    ids: &mut IdSet,
     number: u32,
     undirected: bool,
     line: LineFound,
 ) -> Result<(), GraphFault>
     ensures edges { OnOk result (edges.new ≡ edges.old ++ edges_of_line undirected line) }
-    ensures ids { OnOk result (ids.new.keys ≡ joined ids.old.keys (ids_of_line line)) }
+    ensures ids { OnOk result (ids.new ≡ joined ids.old (ids_of_line line)) }
     ensures sound { OnOk result (fault_of_line number line ≡ None) }
-    ensures size { OnOk result (fault_of_size max_edges max_vertices number edges.new ids.new.keys ≡ None) }
-    ensures few { OnOk result (IsWithinLimits edges.new ids.new.keys) }
+    ensures size { OnOk result (fault_of_size max_edges max_vertices number edges.new ids.new ≡ None) }
+    ensures few { OnOk result (IsWithinLimits edges.new ids.new) }
     ensures err { IfErr result (λ fault. (fault ≡ GraphFault.OutOfMemory) ⊎ (option_or (fault_of_line number line)
-        (fault_of_size max_edges max_vertices number (edges.old ++ edges_of_line undirected line) (joined ids.old.keys (ids_of_line line))) ≡ Some fault)) }
+        (fault_of_size max_edges max_vertices number (edges.old ++ edges_of_line undirected line) (joined ids.old (ids_of_line line))) ≡ Some fault)) }
 {
     check_line(number, line)?;
     add_edges(edges, undirected, line)?;
@@ -145,14 +144,14 @@ fn add_both_ways(edges: &mut Items<Edge>, undirected: bool, edge: Edge) -> Resul
     Ok(())
 }
 
-fn add_ids(ids: &mut BTreeSet<u32>, line: LineFound) -> Result<(), OutOfMemory>
-    ensures { OnOk result (ids.new.keys ≡ joined ids.old.keys (ids_of_line line)) }
+fn add_ids(ids: &mut IdSet, line: LineFound) -> Result<(), OutOfMemory>
+    ensures { OnOk result (ids.new ≡ joined ids.old (ids_of_line line)) }
 {
     match line {
-        LineFound::Vertex(v) => { insert(ids, v) }
+        LineFound::Vertex(v) => { ids.insert(v) }
         LineFound::Edge(src, dst, _) => {
-            insert(ids, src)?;
-            insert(ids, dst)
+            ids.insert(src)?;
+            ids.insert(dst)
         }
         LineFound::Skipped => Ok(()),
         LineFound::TooLarge => Ok(()),
@@ -160,17 +159,10 @@ fn add_ids(ids: &mut BTreeSet<u32>, line: LineFound) -> Result<(), OutOfMemory>
     }
 }
 
-fn insert(ids: &mut BTreeSet<u32>, v: u32) -> Result<(), OutOfMemory>
-    ensures { OnOk result (ids.new.keys ≡ insert_key nat_cmp ids.old.keys v) }
-{
-    ids.insert(v)?;
-    Ok(())
-}
-
-fn check_size(number: u32, edges: &Items<Edge>, ids: &BTreeSet<u32>) -> Result<(), GraphFault>
-    ensures ok { OnOk result (fault_of_size max_edges max_vertices number edges.now ids.now.keys ≡ None) }
-    ensures few { OnOk result (IsWithinLimits edges.now ids.now.keys) }
-    ensures err { IfErr result (λ fault. fault_of_size max_edges max_vertices number edges.now ids.now.keys ≡ Some fault) }
+fn check_size(number: u32, edges: &Items<Edge>, ids: &IdSet) -> Result<(), GraphFault>
+    ensures ok { OnOk result (fault_of_size max_edges max_vertices number edges.now ids.now ≡ None) }
+    ensures few { OnOk result (IsWithinLimits edges.now ids.now) }
+    ensures err { IfErr result (λ fault. fault_of_size max_edges max_vertices number edges.now ids.now ≡ Some fault) }
 {
     if edges.len() > MAX_EDGES {
         Err(GraphFault::TooManyEdges(number))

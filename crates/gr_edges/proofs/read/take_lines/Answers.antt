@@ -9,7 +9,7 @@ use Rattle.gr_edges.proofs.read.take_lines.Goals as goal
 pub lines-init : goal.lines-init
 lines-init c = record {
   short = omega arith;
-  taken = none-taken c.args.undirected (lines_of c.args.bytes.now) c.args.edges.now c.args.ids.now.keys c.requires.no_edge c.requires.no_id;
+  taken = none-taken c.args.undirected (lines_of c.args.bytes.now) c.args.edges.now c.args.ids.now c.requires.no_edge c.requires.no_id;
   left = refl;
 }
 
@@ -25,7 +25,7 @@ returns-in_err-take_line c =
       few = tt;
       refused = elim c.in_err-take_line.ensures.err [
         | inl no_memory ↦ inl no_memory
-        | inr is ↦ inr (fault-found c.args.undirected (lines_of c.args.bytes.now) c.lines.done c.lines.edges c.lines.ids.keys c.lines.invariant.taken c.read_line-line.result there.0 left c.in_err-take_line.field-0.0 is)
+        | inr is ↦ inr (fault-found c.args.undirected (lines_of c.args.bytes.now) c.lines.done c.lines.edges c.lines.ids c.lines.invariant.taken c.read_line-line.result there.0 left c.in_err-take_line.field-0.0 is)
       ];
     })
 
@@ -34,12 +34,12 @@ returns-then-len-rest c =
     let lines = lines_of c.args.bytes.now in
     let ok = c.in_ok-take_line.ensures in
     let left : c.read_line-line.result ∷ [] ≡ drop c.lines.done lines = ap (λ (l : LineFound). let one : List LineFound = l ∷ [] in one) c.read_line-line.ensures ∙ sym (line-last c.lines.rest.now c.line_len-len.result c.line_len-len.ensures.count c.if-len-rest.true) ∙ c.lines.invariant.left in
-    let taken = taken-after c.args.undirected lines c.lines.done c.lines.edges c.lines.ids.keys c.lines.invariant.taken c.read_line-line.result [] left c.take_line.new.edges c.take_line.new.ids.keys ok.edges ok.ids ok.sound ok.size in
-    let rest = lines-after c.args.undirected lines c.lines.done c.lines.edges c.lines.ids.keys c.lines.invariant.taken c.read_line-line.result [] left in
+    let taken = taken-after c.args.undirected lines c.lines.done c.lines.edges c.lines.ids c.lines.invariant.taken c.read_line-line.result [] left c.take_line.new.edges c.take_line.new.ids ok.edges ok.ids ok.sound ok.size in
+    let rest = lines-after c.args.undirected lines c.lines.done c.lines.edges c.lines.ids c.lines.invariant.taken c.read_line-line.result [] left in
     record {
-      accepted = no-fault c.args.undirected lines (c.lines.done + 1) c.take_line.new.edges c.take_line.new.ids.keys taken rest;
-      edges = all-edges c.args.undirected lines (c.lines.done + 1) c.take_line.new.edges c.take_line.new.ids.keys taken rest;
-      ids = all-ids c.args.undirected lines (c.lines.done + 1) c.take_line.new.edges c.take_line.new.ids.keys taken rest;
+      accepted = no-fault c.args.undirected lines (c.lines.done + 1) c.take_line.new.edges c.take_line.new.ids taken rest;
+      edges = all-edges c.args.undirected lines (c.lines.done + 1) c.take_line.new.edges c.take_line.new.ids taken rest;
+      ids = all-ids c.args.undirected lines (c.lines.done + 1) c.take_line.new.edges c.take_line.new.ids taken rest;
       few = ok.few;
       refused = tt;
     }
@@ -55,6 +55,6 @@ lines-preserved c =
     let left : c.read_line-line.result ∷ more ≡ drop c.lines.done lines = ap (λ (l : LineFound). l ∷ more) c.read_line-line.ensures ∙ sym (line-first text n c.line_len-len.ensures.count below) ∙ c.lines.invariant.left in
     record {
       short = rest-shorter c.lines.done n text (length c.args.bytes.now) below c.lines.invariant.short;
-      taken = taken-after c.args.undirected lines c.lines.done c.lines.edges c.lines.ids.keys c.lines.invariant.taken c.read_line-line.result more left c.take_line.new.edges c.take_line.new.ids.keys ok.edges ok.ids ok.sound ok.size;
-      left = lines-after c.args.undirected lines c.lines.done c.lines.edges c.lines.ids.keys c.lines.invariant.taken c.read_line-line.result more left;
+      taken = taken-after c.args.undirected lines c.lines.done c.lines.edges c.lines.ids c.lines.invariant.taken c.read_line-line.result more left c.take_line.new.edges c.take_line.new.ids ok.edges ok.ids ok.sound ok.size;
+      left = lines-after c.args.undirected lines c.lines.done c.lines.edges c.lines.ids c.lines.invariant.taken c.read_line-line.result more left;
     }
