@@ -11,7 +11,7 @@ use Rattle.gr_edges.specs.declared.line.LineFound.{LineFound}
 use Rattle.gr_edges.specs.declared.line.LineFound.TheVariants.{Skipped, Vertex, Edge, TooLarge, Bad}
 use Rattle.gr_edges.specs.Vertices.{HasEnds}
 use Rattle.gr_edges.specs.Reading.{edges_of_line, ids_of_line, edges_of, ids_of}
-use Rattle.gr_edges.proofs.Ids.{has-joined}
+use Rattle.gr_edges.proofs.Ids.{has-joined, or_true}
 
 -- a list with more ids in front or behind
 has-before : (v : ℕ) (ns ms : List ℕ) → has ns v ≡ true → has (ns ++ ms) v ≡ true
@@ -19,10 +19,6 @@ has-before v ns ms h = list_any-append (λ (n : ℕ). eqb n v) ns ms ∙ ap (λ 
 
 has-behind : (v : ℕ) (ns ms : List ℕ) → has ms v ≡ true → has (ns ++ ms) v ≡ true
 has-behind v ns ms h = list_any-append (λ (n : ℕ). eqb n v) ns ms ∙ ap (λ (b : Bool). has ns v || b) h ∙ or_true (has ns v)
-  where
-    or_true : (a : Bool) → (a || true) ≡ true
-    or_true true = refl
-    or_true false = refl
 
 ends-before : (ns ms : List ℕ) (e : base.Edge) → HasEnds ns e → HasEnds (ns ++ ms) e
 ends-before ns ms e h = record { src = has-before e.src ns ms h.src; dst = has-before e.dst ns ms h.dst }
@@ -35,10 +31,6 @@ first-is a b = ap (λ (t : Bool). t || (eqb b a || false)) (eq-eqb a a refl)
 
 second-is : (a b : ℕ) → has (a ∷ b ∷ []) b ≡ true
 second-is a b = ap (λ (t : Bool). eqb a b || (t || false)) (eq-eqb b b refl) ∙ or_true (eqb a b)
-  where
-    or_true : (x : Bool) → (x || true) ≡ true
-    or_true true = refl
-    or_true false = refl
 
 none-of : (P : base.Edge → Type 0) → All P []
 none-of P = λ k d lt. absurd (omega arith)

@@ -11,3 +11,4 @@ pub mod ReadBack
 pub mod Recent
 pub mod Splitting
 pub mod Summing
+mod Worked

@@ -1,11 +1,10 @@
 -- The text of a graph says the graph.
-use Rattle.std.proofs.Common.{◌≡◌, ℕ, zero, suc, ◌+◌, ◌^◌, ◌<◌, ◌≤◌, Bool, true, false, eqb, ltb, cond, get_or, List, [], ◌∷◌, ◌++◌, length, map, take, drop, Option, None, refl, sym, ap, ◌∙◌, subst, arith, inl, inr, length-append, append_assoc}
-use Rattle.std.specs.Prelude.{◌||◌}
-use Rattle.std.specs.List.{All, flat_map, fold}
+use Rattle.std.proofs.Common.{◌≡◌, ℕ, suc, ◌+◌, ◌^◌, ◌<◌, ◌≤◌, Bool, true, false, ltb, List, [], ◌∷◌, ◌++◌, length, map, take, drop, None, refl, sym, ap, ◌∙◌, subst, arith, inl, inr, length-append, append_assoc}
+use Rattle.std.specs.List.{All, flat_map}
 use Rattle.std.specs.Ordering.{nat_cmp}
 use Rattle.std.specs.Option.{option_or}
 use Rattle.std.specs.BTreeSet.{insert_key}
-use Rattle.std.proofs.lemmas.Bool.{cases_Bool, cases_order, cases_eq, cond-false, le-ltb, eqb-true, ne_eqb}
+use Rattle.std.proofs.lemmas.Bool.{cases_order, cond-false, le-ltb}
 use Rattle.std.proofs.lemmas.List.{append-nil, take-append-drop, get_or_append_left}
 use Rattle.std.proofs.Math.Seq.{get_or-append_seam}
 use Rattle.std.proofs.lemmas.List.Concat.{flat_map-append}
@@ -17,10 +16,9 @@ use Rattle.gr_base.proofs.Rising.{keys-rise}
 use Rattle.gr_edges.specs.declared.graph.VertexInfo.{VertexInfo}
 use Rattle.gr_edges.specs.declared.line.LineFound.{LineFound}
 use Rattle.gr_edges.specs.declared.line.LineFound.TheVariants.{Skipped, Vertex, Edge}
-use Rattle.gr_edges.specs.declared.fault.GraphFault.{GraphFault}
 use Rattle.gr_edges.specs.Vertices.{id_of, ids, vertex_of, HasDegrees, HasEnds}
 use Rattle.gr_edges.specs.Reading.{lines_of, joined, edges_of_line, ids_of_line, edges_of, ids_of, vertices_of, fault_of_line, fault_of_size, fault_at, first_fault, max_edges, max_vertices, IsWithinLimits}
-use Rattle.gr_edges.specs.Text.{text_of, vertex_line, edge_line, IsReadAs, Has32Bits}
+use Rattle.gr_edges.specs.Text.{text_of, edge_line, IsReadAs, Has32Bits}
 use Rattle.gr_edges.proofs.FirstFault.{none-found}
 use Rattle.gr_edges.proofs.Ids.{insert-lt, insert-eq, insert-gt, insert-present}
 use Rattle.gr_edges.proofs.Printed.{vertex-lines, edge-lines}
