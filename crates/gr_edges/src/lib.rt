@@ -1,0 +1,6 @@
+//! Stub.
+#![tactic(auto)]
+
+mod graph;
+
+pub use graph::{Graph, VertexInfo};
