@@ -6,3 +6,4 @@ pub mod Marks
 pub mod Sums
 pub mod Steps
 pub mod Tests
+pub mod Runs

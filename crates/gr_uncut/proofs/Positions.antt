@@ -1,13 +1,12 @@
 -- Where the ends of edges stand among the vertices.
-use Rattle.std.proofs.Common.{◌≡◌, ◌≢◌, ◌∙◌, ◌<◌, ◌≤◌, ◌+◌, ◌||◌, ℕ, zero, suc, Bool, true, false, cond, eqb, ltb, List, [], ◌∷◌, ◌++◌, Option, Some, None, length, take, get_or, map, refl, ap, sym, arith, inl, inr}
+use Rattle.std.proofs.Common.{◌≡◌, ◌∙◌, ◌<◌, ◌+◌, ◌||◌, ℕ, Bool, true, false, eqb, ltb, List, [], ◌∷◌, ◌++◌, Some, None, length, take, get_or, map, refl, ap, sym, arith, inl, inr}
 use Rattle.std.specs.Prelude.{slice_index}
 use Rattle.std.specs.List.{All, filter, find, list_any, prefix_len}
-use Rattle.std.proofs.lemmas.Bool.{cases_eq, cases_order, cases_Bool, cond-true, cond-false, eq-eqb, ne_eqb, eqb-true}
-use Rattle.std.proofs.lemmas.List.{length-map, take_more, map-append, get_or-map, get_or_default}
-use Rattle.std.proofs.lemmas.List.Elements.{All-append, All-cons, All-nil, All-head, All-tail, All-push}
+use Rattle.std.proofs.lemmas.Bool.{cases_order, cases_Bool, cond-true, cond-false, eq-eqb, ne_eqb}
+use Rattle.std.proofs.lemmas.List.{take_more, map-append}
+use Rattle.std.proofs.lemmas.List.Elements.{All-cons, All-nil, All-head, All-tail}
 use Rattle.gr_base.specs.Rising.{RisesBy, has}
-use Rattle.gr_base.proofs.Rising.{stands-at, keys-rise}
-use Rattle.gr_uncut.specs.Index.{ArePositions}
+use Rattle.gr_base.proofs.Rising.{stands-at}
 use Rattle.gr_uncut.specs.Rows.{items_of}
 
 pub list_any-map : {X Y : Type 0} (f : X → Y) (p : Y → Bool) (xs : List X) → list_any p (map f xs) ≡ list_any (λ x. p (f x)) xs
@@ -63,6 +62,7 @@ items_of-told name at told key (j ∷ keys) (x ∷ xs) (y ∷ ys) k same all apa
   where
     head : {B : Type 0} {b c : B} {bs cs : List B} → b ∷ bs ≡ c ∷ cs → b ≡ c
     head q = cc
+
     tail : {B : Type 0} {b c : B} {bs cs : List B} → b ∷ bs ≡ c ∷ cs → bs ≡ cs
     tail q = cc
 

@@ -1,8 +1,8 @@
 -- A round over positions is a round of the definition.
-use Rattle.std.proofs.Common.{◌≡◌, ◌∙◌, ◌<◌, ◌≤◌, ◌+◌, ◌&&◌, ℕ, Bool, true, false, cond, eqb, List, [], ◌∷◌, length, get_or, map, if◌then◌else◌, IsTrue, refl, ap, sym, arith, inl, inr}
+use Rattle.std.proofs.Common.{◌≡◌, ◌∙◌, ◌<◌, ◌&&◌, ℕ, Bool, true, eqb, List, [], ◌∷◌, length, get_or, map, if◌then◌else◌, refl, ap, sym, arith}
 use Rattle.std.specs.Prelude.{slice_index}
-use Rattle.std.specs.List.{All, Any, filter, list_any}
-use Rattle.std.proofs.lemmas.Bool.{cases_Bool, cond-true, cond-false, eq-eqb, eqb-true, and_parts, and_from}
+use Rattle.std.specs.List.{All, filter, list_any}
+use Rattle.std.proofs.lemmas.Bool.{cond-true, eq-eqb, eqb-true, and_parts, and_from}
 use Rattle.std.proofs.lemmas.List.{length-map, get_or-map, get_or_default, same_lists}
 use Rattle.std.proofs.lemmas.List.Elements.{All-filter, All-nil, All-cons, All-head, All-tail}
 use Rattle.std.proofs.lemmas.List.Folds.{Any-from_list_any, list_any_at}
@@ -15,7 +15,7 @@ use Rattle.gr_program.specs.Rounds.{State, contribution, gathered, next_value, w
 use Rattle.gr_program.proofs.Recompute.{source-degree}
 use Rattle.gr_uncut.specs.declared.index.Arc.{Arc}
 use Rattle.gr_uncut.specs.declared.index.Index.{Index}
-use Rattle.gr_uncut.specs.Index.{arc_of, with_id, arcs_at, targets_at, AreArcs, IsIndex}
+use Rattle.gr_uncut.specs.Index.{arc_of, with_id, arcs_at, targets_at, IsIndex}
 use Rattle.gr_uncut.specs.Round.{Reads, brought, applied, is_woken, Holds}
 use Rattle.gr_uncut.proofs.Positions.{list_any-map, same-position}
 use Rattle.gr_uncut.proofs.Tests.{list_any-same, list_any-filter, same_tests}
@@ -48,7 +48,7 @@ pub arcs-degrees : (es : List Edge) (vs : List ℕ) (index : Index) → IsIndex 
 arcs-degrees es vs index is k lt = degrees-of vs es (arcs_at index k) (filter (λ e. eqb e.dst (slice_index vs k)) es) (is.arcs k lt).at (All-filter (λ e. eqb e.dst (slice_index vs k)) (λ e. 0 < outdegree es e.src) es (source-degree es))
 
 -- a number of a list stands at a position
-place-of : (ks : List ℕ) (v : ℕ) → has ks v ≡ true → (k : ℕ) × (k < length ks) × (slice_index ks k ≡ v)
+pub place-of : (ks : List ℕ) (v : ℕ) → has ks v ≡ true → (k : ℕ) × (k < length ks) × (slice_index ks k ≡ v)
 place-of ks v on =
     let some = Any-from_list_any (λ x. eqb x v) ks on in
     (some.0, some.2, get_or_default ks some.0 0 some.1 some.2 ∙ some.3 ∙ eqb-true some.1 v some.4)
@@ -126,8 +126,8 @@ module _ {V A : Type 0} (p : Program V A) (es : List Edge) (vs : List ℕ) (inde
         let active : s.active (slice_index vs j) ≡ true = (and_parts (s.active (slice_index vs j)) (p.wakes (old j) (next_value p es s (slice_index vs j))) woken).0 in
         let at = place-of ks j (before.active j place.1 ∙ active) in
         let hit : has (targets_at index j) k ≡ true =
-            has-targets j k place.1 lk ∙ list_any_at (λ e. (eqb e.src (slice_index vs j)) && (eqb e.dst (slice_index vs k))) es edge.0 e edge.2
-            (ap (λ f. (eqb f.src (slice_index vs j)) && (eqb f.dst (slice_index vs k))) edge.3 ∙ and_from (eqb e.src (slice_index vs j)) (eqb e.dst (slice_index vs k)) (eq-eqb e.src (slice_index vs j) (sym place.2)) both.0) in
+        has-targets j k place.1 lk ∙ list_any_at (λ e. (eqb e.src (slice_index vs j)) && (eqb e.dst (slice_index vs k))) es edge.0 e edge.2
+        (ap (λ f. (eqb f.src (slice_index vs j)) && (eqb f.dst (slice_index vs k))) edge.3 ∙ and_from (eqb e.src (slice_index vs j)) (eqb e.dst (slice_index vs k)) (eq-eqb e.src (slice_index vs j) (sym place.2)) both.0) in
         list_any_at (λ j. p.wakes (old j) (new j) && has (targets_at index j) k) ks at.0 0 at.1
         (ap (λ j. p.wakes (old j) (new j) && has (targets_at index j) k) at.2 ∙ and_from (p.wakes (old j) (new j)) (has (targets_at index j) k) (wakes-at j place.1 active ∙ woken) hit)
 

@@ -1,5 +1,5 @@
-use Rattle.std.proofs.Common.{◌≡◌, ◌∙◌, ◌≤◌, map, length, take, slice_index_or, sym, ap, arith}
-use Rattle.std.proofs.lemmas.List.{take_all, get_or_default}
+use Rattle.std.proofs.Common.{◌∙◌, map, take, slice_index_or, sym, ap}
+use Rattle.std.proofs.lemmas.List.{take_all}
 use Rattle.gr_program.specs.Program.{total}
 use Rattle.gr_uncut.specs.declared.index.Arc.{Arc}
 use Rattle.gr_uncut.specs.Round.{brought}

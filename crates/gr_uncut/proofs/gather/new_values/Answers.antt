@@ -1,10 +1,9 @@
-use Rattle.std.proofs.Common.{◌≡◌, ◌∙◌, ◌<◌, ◌≤◌, ◌+◌, map, length, take, slice_index, slice_index_or, IsTrue, sym, ap, arith}
+use Rattle.std.proofs.Common.{◌≡◌, ◌∙◌, ◌<◌, ◌+◌, map, length, slice_index, slice_index_or, IsTrue, sym, ap, arith}
 use Rattle.std.proofs.lemmas.List.{take_all, get_or-map, length_push}
 use Rattle.std.proofs.lemmas.List.Elements.{All-push}
 use Rattle.gr_program.specs.Program.{total}
 use Rattle.gr_edges.specs.declared.graph.VertexInfo.{VertexInfo}
 use Rattle.gr_edges.specs.Vertices.{ids, id_of}
-use Rattle.gr_uncut.specs.Index.{arcs_at}
 use Rattle.gr_uncut.specs.Round.{brought, applied}
 use Rattle.gr_uncut.proofs.Sums.{map-push}
 use Rattle.gr_uncut.proofs.gather.new_values.Goals as goal
@@ -29,10 +28,10 @@ loop-position-preserved g c =
           let sum_is = c.gathered-sum.ensures.sum x reads ∙ ap (λ l. total p (map (brought p x) l)) c.row.ensures in
           c.in_ok-push.ensures.ok
           ∙ map-push (applied p vs c.args.index.now x) active c.loop-position.new i c.apply.result 0 c.loop-position-test.true (c.loop-position.invariant.values x reads)
-            (c.apply.ensures.value
-            ∙ ap (λ n. p.apply n c.index-values-at.result c.gathered-sum.result) id
-            ∙ ap (λ y. p.apply (slice_index vs k) y c.gathered-sum.result) value_is
-            ∙ ap (p.apply (slice_index vs k) (x k)) sum_is);
+          (c.apply.ensures.value
+          ∙ ap (λ n. p.apply n c.index-values-at.result c.gathered-sum.result) id
+          ∙ ap (λ y. p.apply (slice_index vs k) y c.gathered-sum.result) value_is
+          ∙ ap (p.apply (slice_index vs k) (x k)) sum_is);
       kept = rw c.in_ok-push.ensures.ok (All-push (λ x. IsTrue (p.is_value x)) c.loop-position.new c.apply.result c.loop-position.invariant.kept c.apply.ensures.kept);
     }
 

@@ -1,4 +1,4 @@
-use Rattle.std.proofs.Common.{◌≡◌, ◌∙◌, ◌<◌, ◌≤◌, length, take, slice_index, slice_index_or, Bool, IsTrue, if◌then◌else◌, sym, ap, refl, arith}
+use Rattle.std.proofs.Common.{◌∙◌, ◌<◌, length, slice_index, slice_index_or, IsTrue, if◌then◌else◌, ap, refl, arith}
 use Rattle.std.proofs.lemmas.List.{take_all, get_or-map, length-set}
 use Rattle.std.proofs.lemmas.List.Elements.{All-set}
 use Rattle.gr_base.specs.Rising.{has}
