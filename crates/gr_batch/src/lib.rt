@@ -1,0 +1,12 @@
+//! What places send to each other in a round and in a rebuild, and what comes of an event.
+#![tactic(auto)]
+
+mod batch;
+mod body;
+mod outcome;
+mod stage;
+
+pub use batch::Batch;
+pub use body::{Body, NewValue, Part};
+pub use outcome::{Fate, Outcome};
+pub use stage::Stage;

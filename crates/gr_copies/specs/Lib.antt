@@ -1,0 +1,2 @@
+pub mod Granter
+pub mod Holders

@@ -1,0 +1,3 @@
+pub mod Bytes
+pub mod Directory
+pub mod Log

@@ -1,0 +1,6 @@
+//! The coordinator of a cluster: what it knows of the places, and what it decides.
+#![tactic(auto)]
+
+mod coordinator;
+
+pub use coordinator::{Coordinator, Mode, Opening, Verdict};
