@@ -1,6 +1,0 @@
-//! Stub.
-#![tactic(auto)]
-
-mod graph;
-
-pub use graph::{Graph, VertexInfo};
