@@ -1,0 +1,5 @@
+pub mod Fields
+pub mod Reading
+pub mod Summary
+pub mod Text
+pub mod Vertices
