@@ -1,9 +1,9 @@
 pub mod Counts
-pub mod Placing
-pub mod Positions
 pub mod Indexed
 pub mod Marks
-pub mod Sums
-pub mod Steps
-pub mod Tests
+pub mod Placing
+pub mod Positions
 pub mod Runs
+pub mod Steps
+pub mod Sums
+pub mod Tests

@@ -17,7 +17,7 @@ use Rattle.gr_uncut.specs.declared.index.Arc.{Arc}
 use Rattle.gr_uncut.specs.declared.index.Index.{Index}
 use Rattle.gr_uncut.specs.Index.{arc_of, with_id, arcs_at, targets_at, IsIndex}
 use Rattle.gr_uncut.specs.Round.{Reads, brought, applied, is_woken, Holds}
-use Rattle.gr_uncut.proofs.Positions.{list_any-map, same-position}
+use Rattle.gr_uncut.proofs.Positions.{list_any-map, same-position, place-of}
 use Rattle.gr_uncut.proofs.Tests.{list_any-same, list_any-filter, same_tests}
 
 head : {B : Type 0} {b c : B} {bs cs : List B} → b ∷ bs ≡ c ∷ cs → b ≡ c
@@ -46,12 +46,6 @@ degrees-of vs es (a ∷ arcs) (e ∷ edges) is pos =
 -- each arc leaves a vertex with edges
 pub arcs-degrees : (es : List Edge) (vs : List ℕ) (index : Index) → IsIndex es vs index → (k : ℕ) → k < length vs → All (λ a. 0 < a.outdegree) (arcs_at index k)
 arcs-degrees es vs index is k lt = degrees-of vs es (arcs_at index k) (filter (λ e. eqb e.dst (slice_index vs k)) es) (is.arcs k lt).at (All-filter (λ e. eqb e.dst (slice_index vs k)) (λ e. 0 < outdegree es e.src) es (source-degree es))
-
--- a number of a list stands at a position
-pub place-of : (ks : List ℕ) (v : ℕ) → has ks v ≡ true → (k : ℕ) × (k < length ks) × (slice_index ks k ≡ v)
-place-of ks v on =
-    let some = Any-from_list_any (λ x. eqb x v) ks on in
-    (some.0, some.2, get_or_default ks some.0 0 some.1 some.2 ∙ some.3 ∙ eqb-true some.1 v some.4)
 
 module _ {V A : Type 0} (p : Program V A) (es : List Edge) (vs : List ℕ) (index : Index) (is : IsIndex es vs index) (s : State V) (xs : List V) (ks : List ℕ) (before : Holds p vs s xs ks) where
   -- the value at a position, and what it becomes where the position is active

@@ -7,7 +7,7 @@ ghost use Rattle.gr_uncut.specs.Round.{Holds};
 
 use crate::gather::{new_values, put_values};
 use crate::index::Index;
-use crate::wake::woken;
+use crate::wake::{in_order, woken};
 use gr_base::{Items, OutOfMemory};
 use gr_edges::Graph;
 use gr_program::VertexProgram;
@@ -24,6 +24,7 @@ pub fn round<P: VertexProgram>(
     active: &[u32],
     stamps: &mut Items<u32>,
 ) -> Result<Items<u32>, OutOfMemory>
+    requires count { length graph.now.vertices ≤ 1048576 }
     requires index { IsIndex graph.now.edges (ids graph.now.vertices) index.now }
     requires before { Holds (P.program_of program.now) (ids graph.now.vertices) (state_after (P.program_of program.now) graph.now.edges done) values.old active.now }
     requires long { length stamps.old ≡ length graph.now.vertices }
@@ -46,6 +47,7 @@ pub fn round<P: VertexProgram>(
         done + 1,
         stamps,
     )?;
+    let next = in_order(alloc, next, done + 1, stamps.as_slice())?;
     put_values(values, active, new.as_slice());
     Ok(next)
 }

@@ -32,13 +32,16 @@ returns g c =
     let rise = keys-rise id_of vertices c.vertex_count-count.ensures.rise in
     let new_is : c.in_ok-new.new ≡ map y ks = c.in_ok-new.ensures.values x (rw c.as_slice.ensures reads) ∙ ap (λ l. map (applied p (ids l) index x) ks) c.as_slice-vertices.ensures in
     let woken = c.in_ok-next.ensures.woken x y (rw c.as_slice-2.ensures reads) (c.as_slice-3.ensures ∙ new_is) in
-    let put = c.put_values.ensures.values x y reads (c.as_slice-4.ensures ∙ new_is) in
+    let put = c.put_values.ensures.values x y reads (c.as_slice-5.ensures ∙ new_is) in
+    let ordered = c.in_ok-next-2.ensures.same in
     record {
-      after = next-holds p es vs c.args.done c.put_values.new.values c.in_ok-next.next
+      after = next-holds p es vs c.args.done c.put_values.new.values c.in_ok-next-2.next
           (next-values p es vs index c.requires.index s xs ks before c.put_values.new.values c.put_values.ensures.long put)
-          (c.put_values.ensures.kept p.is_value before.kept (rw c.as_slice-4.ensures c.in_ok-new.ensures.kept))
-          (rw (count, ← c.requires.long) c.in_ok-next.ensures.next)
-          (λ k lt. woken k ∙ woken-is p es vs index c.requires.index s xs ks before rise c.vertex_count-count.ensures.ends k lt);
+          (c.put_values.ensures.kept p.is_value before.kept (rw c.as_slice-5.ensures c.in_ok-new.ensures.kept))
+          (rw (count, ← c.requires.long, ← c.in_ok-next.ensures.long, ← c.as_slice-4.ensures) c.in_ok-next-2.ensures.within)
+          (λ k lt.
+              let low : k < length c.as_slice-4.result.now = rw (c.as_slice-4.ensures, c.in_ok-next.ensures.long, c.requires.long, ← count) lt in
+              ordered k low ∙ woken k ∙ woken-is p es vs index c.requires.index s xs ks before rise c.vertex_count-count.ensures.ends k lt);
       long = c.in_ok-next.ensures.long ∙ c.requires.long;
       stamps = c.in_ok-next.ensures.stamps;
     }
