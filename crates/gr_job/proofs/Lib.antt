@@ -1,0 +1,4 @@
+pub mod Documents
+pub mod Numbers
+pub mod Arrays
+pub mod UnknownKeys
