@@ -8,7 +8,7 @@ use Rattle.std.proofs.lemmas.List.Folds.{list_all-map}
 use Rattle.toml.specs.Data.{Data, string, integer, float, boolean, datetime, array, table, as_array, Items, no_items, item}
 use Rattle.toml.specs.View.{items_of}
 use Rattle.gr_job.specs.declared.fault.JobFault.TheVariants.{WrongType, OutOfRange}
-use Rattle.gr_job.specs.Kinds.{elements, is_integer, natural, within, wholes}
+use Rattle.gr_job.specs.Kinds.{elements, is_integer, natural, within, integers_in}
 use Rattle.gr_job.proofs.Numbers.{elements-items_of}
 
 data_of_array : (d : Data) (items : Items) → Some items ≡ as_array d → d ≡ array items
@@ -36,19 +36,19 @@ length-filter_map f (x ∷ xs) =
 
 module _ {V : Type 0} (view : V → Data) (longest most : ℕ) (key : List ℕ) (d : Data) (vs : List V) (seen : Some (items_of (map view vs)) ≡ as_array d) where
   -- an element of another type
-  pub wholes-wrong : false ≡ list_all (λ v. is_integer (view v)) vs → (text : List ℕ) → text ≡ key → wholes longest most key d ≡ Err (WrongType text)
-  wholes-wrong test text is = rw (is, data_of_array d _ seen, elements-items_of, list_all-map is_integer view vs, ← test)
+  pub integers_in-wrong : false ≡ list_all (λ v. is_integer (view v)) vs → (text : List ℕ) → text ≡ key → integers_in longest most key d ≡ Err (WrongType text)
+  integers_in-wrong test text is = rw (is, data_of_array d _ seen, elements-items_of, list_all-map is_integer view vs, ← test)
 
   -- too many elements, or one out of range
-  pub wholes-out : true ≡ list_all (λ v. is_integer (view v)) vs
+  pub integers_in-out : true ≡ list_all (λ v. is_integer (view v)) vs
       → None ≡ (if within longest most (map view vs) then Some (filter_map (natural most) (map view vs)) else None)
-      → (text : List ℕ) → text ≡ key → wholes longest most key d ≡ Err (OutOfRange text)
-  wholes-out test none text is = rw (is, data_of_array d _ seen, elements-items_of, list_all-map is_integer view vs, ← test, if_none _ _ none)
+      → (text : List ℕ) → text ≡ key → integers_in longest most key d ≡ Err (OutOfRange text)
+  integers_in-out test none text is = rw (is, data_of_array d _ seen, elements-items_of, list_all-map is_integer view vs, ← test, if_none _ _ none)
 
-  pub wholes-ok : (numbers : List ℕ) → true ≡ list_all (λ v. is_integer (view v)) vs
+  pub integers_in-ok : (numbers : List ℕ) → true ≡ list_all (λ v. is_integer (view v)) vs
       → Some numbers ≡ (if within longest most (map view vs) then Some (filter_map (natural most) (map view vs)) else None)
-      → wholes longest most key d ≡ Ok numbers
-  wholes-ok numbers test some =
+      → integers_in longest most key d ≡ Ok numbers
+  integers_in-ok numbers test some =
       let (fits, is) = if_some _ _ _ some in
       rw (data_of_array d _ seen, elements-items_of, list_all-map is_integer view vs, ← test, fits, is)
 

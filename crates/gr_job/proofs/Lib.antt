@@ -2,3 +2,4 @@ pub mod Documents
 pub mod Numbers
 pub mod Arrays
 pub mod UnknownKeys
+mod Worked

@@ -1,5 +1,5 @@
 -- The first unknown key by bytes is the first in a map whose keys rise.
-use Rattle.std.proofs.Common.{◌≡◌, ℕ, Bool, true, false, not, List, [], ◌∷◌, filter, fold, Option, Some, None, Err, option_map, String, Global, Less, string_bytes, nat_cmp, refl, ap, ◌∙◌, inl, inr}
+use Rattle.std.proofs.Common.{◌≡◌, ℕ, Bool, true, false, not, List, [], ◌∷◌, filter, fold, Option, Some, None, Ok, Err, option_map, String, Global, Less, string_bytes, nat_cmp, refl, ap, ◌∙◌, inl, inr}
 use Rattle.std.specs.List.{AllByRecursion, find}
 use Rattle.std.specs.List.Sorted.{IsStrictlySortedBy}
 use Rattle.std.specs.Map.{keys_of as map_keys}
@@ -11,7 +11,7 @@ use Rattle.std.proofs.lemmas.Cmp.{nat_list_cmp_total}
 use Rattle.toml.specs.View.{members_view}
 use Rattle.toml.proofs.Views.{Entry}
 use Rattle.gr_job.specs.declared.fault.JobFault.TheVariants.{UnknownKey}
-use Rattle.gr_job.specs.Job.{known}
+use Rattle.gr_job.specs.Job.{only_known_keys}
 use Rattle.gr_job.specs.Keys.{is_job_key, keys_of, earlier, earliest, unknown_key}
 
 -- the key comes before each of the keys
@@ -57,8 +57,8 @@ unknown_key-rising (e ∷ es) rising =
 
 -- the key that the search found is the one that the document is refused for
 pub unknown_found : (es : List Entry) → IsStrictlySortedBy string_cmp (map_keys es) → (key : String Global) → Some key ≡ find (λ k. is_unknown (string_bytes k)) (map_keys es)
-    → (text : List ℕ) → text ≡ string_bytes key → known (unknown_key (members_view es)) ≡ Err (UnknownKey text)
+    → (text : List ℕ) → text ≡ string_bytes key → only_known_keys (members_view es) ≡ Err (UnknownKey text)
 unknown_found es rising key found text is = rw (unknown_key-rising es rising, ← found, is)
 
-pub unknown_none : (es : List Entry) → IsStrictlySortedBy string_cmp (map_keys es) → None ≡ find (λ k. is_unknown (string_bytes k)) (map_keys es) → unknown_key (members_view es) ≡ None
+pub unknown_none : (es : List Entry) → IsStrictlySortedBy string_cmp (map_keys es) → None ≡ find (λ k. is_unknown (string_bytes k)) (map_keys es) → only_known_keys (members_view es) ≡ Ok tt
 unknown_none es rising found = rw (unknown_key-rising es rising, ← found)

@@ -9,7 +9,7 @@ use Rattle.gr_job.specs.declared.job.Job.{Job}
 use Rattle.gr_job.specs.declared.job.ProgramChoice.{ProgramChoice}
 use Rattle.gr_job.specs.Names.{needs_source, needs_k, needs_seeds, choice_of}
 use Rattle.gr_job.specs.Keys.{unknown_key}
-use Rattle.gr_job.specs.Kinds.{Kind, whole, flag, program, wholes}
+use Rattle.gr_job.specs.Kinds.{Kind, integer_in, boolean_value, program_name, integers_in}
 
 -- what a job says
 pub record JobValues : Type 0 where
@@ -30,25 +30,25 @@ values_of job = record {
   theta = job.theta;
   rounds = job.rounds;
   undirected = job.undirected;
-  program = job.program
+  program = job.program;
 }
 
--- the rest is read once a step has given its value; the first fault is the whole's
+-- the rest is read once a step has given its value; the first fault is the fault of all
 infixl 10 ◌>>=◌
 abbrev pub ◌>>=◌ : {A B : Type 0} → Result A JobFault → (A → Result B JobFault) → Result B JobFault
 (Ok a) >>= f = f a
 (Err fault) >>= f = Err fault
 
--- how the absence of a key is taken: as a fault, or as a value
-abbrev pub refused : {A : Type 0} → Option A
-refused = None
+-- an absent key is a fault where it is required, and elsewhere has a default
+abbrev pub required : {A : Type 0} → Option A
+required = None
 
-abbrev pub otherwise : {A : Type 0} → A → Option A
-otherwise = Some
+abbrev pub default : {A : Type 0} → A → Option A
+default = Some
 
--- needed, or else this value, of which nothing comes
-abbrev pub refused_if : {A : Type 0} → Bool → A → Option A
-refused_if needed value = if needed then refused else otherwise value
+-- required where it is needed; elsewhere a value that nothing reads
+abbrev pub required_if : {A : Type 0} → Bool → A → Option A
+required_if needed value = if needed then required else default value
 
 -- what stands under a key: a value by its type, or nothing
 abbrev pub under : {A : Type 0} → List ℕ → Kind A → Option A → Option Data → Result A JobFault
@@ -60,25 +60,28 @@ under key kind None None = Err (Missing key)
 abbrev pub row : {A : Type 0} → List ℕ → Kind A → Option A → Members → Result A JobFault
 row key kind absent table = under key kind absent (get_member key table)
 
--- refused at a key that no job has
-abbrev pub known : Option (List ℕ) → Result (Unit {0}) JobFault
-known None = Ok tt
-known (Some key) = Err (UnknownKey key)
+-- a document with a key that no job has is refused for the first of them
+abbrev pub refused_for : Option (List ℕ) → Result (Unit {0}) JobFault
+refused_for None = Ok tt
+refused_for (Some key) = Err (UnknownKey key)
+
+abbrev pub only_known_keys : Members → Result (Unit {0}) JobFault
+only_known_keys table = refused_for (unknown_key table)
 
 -- the job of a document: unknown keys first, and then the keys in this order, each with its type, range and absence
 unfoldable pub job_of_table : Members → Result JobValues JobFault
 job_of_table t = do
-  _ ← known (unknown_key t)
-  places ← row (codes "places") (whole 1 64) refused t
-  spares ← row (codes "spares") (whole 0 64) (otherwise 0) t
-  losses ← row (codes "losses") (whole 0 7) (otherwise 1) t
-  theta ← row (codes "theta") (whole 0 4294967295) (otherwise 100) t
-  rounds ← row (codes "rounds") (whole 1 10000) (otherwise 1000) t
-  undirected ← row (codes "undirected") flag (otherwise false) t
-  name ← row (codes "program") program refused t
-  source ← row (codes "source") (whole 0 4294967295) (refused_if (needs_source name) 0) t
-  k ← row (codes "k") (whole 0 4294967295) (refused_if (needs_k name) 0) t
-  seeds ← row (codes "seeds") (wholes 64 4294967295) (refused_if (needs_seeds name) []) t
+  _ ← only_known_keys t
+  places ← row (codes "places") (integer_in 1 64) required t
+  spares ← row (codes "spares") (integer_in 0 64) (default 0) t
+  losses ← row (codes "losses") (integer_in 0 7) (default 1) t
+  theta ← row (codes "theta") (integer_in 0 4294967295) (default 100) t
+  rounds ← row (codes "rounds") (integer_in 1 10000) (default 1000) t
+  undirected ← row (codes "undirected") boolean_value (default false) t
+  name ← row (codes "program") program_name required t
+  source ← row (codes "source") (integer_in 0 4294967295) (required_if (needs_source name) 0) t
+  k ← row (codes "k") (integer_in 0 4294967295) (required_if (needs_k name) 0) t
+  seeds ← row (codes "seeds") (integers_in 64 4294967295) (required_if (needs_seeds name) []) t
   Ok (record {
     places = places;
     spares = spares;
@@ -86,7 +89,7 @@ job_of_table t = do
     theta = theta;
     rounds = rounds;
     undirected = undirected;
-    program = choice_of name source k seeds
+    program = choice_of name source k seeds;
   })
 
 -- the document that bytes are: UTF-8 that `toml` reads

@@ -13,15 +13,15 @@ abbrev pub Kind : Type 0 → Type 0
 Kind A = List ℕ → Data → Result A JobFault
 
 -- an integer from `least` to `most`
-abbrev pub whole : ℕ → ℕ → Kind ℕ
-whole least most key (integer (pos n)) = if nat_le least n && nat_le n most then Ok n else Err (OutOfRange key)
-whole least most key (integer (negsuc n)) = Err (OutOfRange key)
-whole least most key _ = Err (WrongType key)
+abbrev pub integer_in : ℕ → ℕ → Kind ℕ
+integer_in least most key (integer (pos n)) = if nat_le least n && nat_le n most then Ok n else Err (OutOfRange key)
+integer_in least most key (integer (negsuc n)) = Err (OutOfRange key)
+integer_in least most key _ = Err (WrongType key)
 
 -- a boolean
-abbrev pub flag : Kind Bool
-flag key (boolean b) = Ok b
-flag key _ = Err (WrongType key)
+abbrev pub boolean_value : Kind Bool
+boolean_value key (boolean b) = Ok b
+boolean_value key _ = Err (WrongType key)
 
 -- the program of a name, if there is one
 abbrev pub named : Option Name → Result Name JobFault
@@ -29,9 +29,9 @@ named (Some name) = Ok name
 named None = Err UnknownProgram
 
 -- a string that names a program
-abbrev pub program : Kind Name
-program key (string text) = named (name_of text)
-program key _ = Err (WrongType key)
+abbrev pub program_name : Kind Name
+program_name key (string text) = named (name_of text)
+program_name key _ = Err (WrongType key)
 
 -- the elements of an array
 abbrev pub elements : Items → List Data
@@ -51,10 +51,10 @@ abbrev pub within : ℕ → ℕ → List Data → Bool
 within longest most ds = nat_le (length ds) longest && list_all (λ d. is_some (natural most d)) ds
 
 -- an array of at most `longest` integers, each from 0 to `most`; an element of another type goes before the ranges
-abbrev pub wholes : ℕ → ℕ → Kind (List ℕ)
-wholes longest most key (array items) =
+abbrev pub integers_in : ℕ → ℕ → Kind (List ℕ)
+integers_in longest most key (array items) =
     let ds = elements items in
     if list_all is_integer ds
     then (if within longest most ds then Ok (filter_map (natural most) ds) else Err (OutOfRange key))
     else Err (WrongType key)
-wholes longest most key _ = Err (WrongType key)
+integers_in longest most key _ = Err (WrongType key)

@@ -5,8 +5,8 @@ ghost use Rattle.std.specs.String.{string_cmp};
 ghost use Rattle.std.specs.Option.{ForSome};
 ghost use Rattle.toml.specs.Data.{get_member};
 ghost use Rattle.toml.specs.View.{view, table_view};
-ghost use Rattle.gr_job.specs.Job.{document_of, known, row};
-ghost use Rattle.gr_job.specs.Keys.{is_job_key as is_in_job, unknown_key};
+ghost use Rattle.gr_job.specs.Job.{document_of, only_known_keys, row};
+ghost use Rattle.gr_job.specs.Keys.{is_job_key as is_in_job};
 ghost use Rattle.gr_job.specs.Kinds as spec;
 
 use crate::name::Name;
@@ -61,9 +61,9 @@ impl Document {
 
     /// Refuses a document with a key that no job has.
     pub(crate) fn refuse_unknown_keys(&self) -> Result<(), JobFault>
-        ensures ok { IfOk result (λ _. unknown_key (table_view self.now.table) ≡ None) }
+        ensures ok { IfOk result (λ _. only_known_keys (table_view self.now.table) ≡ Ok tt) }
         ensures refused { IfErr result (λ e. e ≢ JobFault.OutOfMemory
-            → known (unknown_key (table_view self.now.table)) ≡ Err e) }
+            → only_known_keys (table_view self.now.table) ≡ Err e) }
     {
         match first_unknown(&self.table) {
             Some(key) => Err(JobFault::UnknownKey(KeyText::new(self.alloc, key.as_str())?)),
@@ -78,70 +78,81 @@ impl Document {
         self.table.get(key)
     }
 
-    /// What the absence of a key comes to.
-    fn absent<T>(&self, key: &str, absent: Option<T>) -> Result<T, JobFault>
-        ensures ok { IfOk result (λ value. absent ≡ Some value) }
+    /// The default of an absent key. `None` is a key that is required.
+    fn or_default<T>(&self, key: &str, default: Option<T>) -> Result<T, JobFault>
+        ensures ok { IfOk result (λ value. default ≡ Some value) }
         ensures refused { IfErr result (λ e. e ≢ JobFault.OutOfMemory → e ≡ JobFault.Missing key.now) }
-        ensures needed { IfErr result (λ e. absent ≡ None) }
+        ensures needed { IfErr result (λ e. default ≡ None) }
     {
-        match absent {
+        match default {
             Some(value) => Ok(value),
             None => Err(JobFault::Missing(KeyText::new(self.alloc, key)?)),
         }
     }
 
     /// The integer under a key, from `least` to `most`.
-    pub(crate) fn whole(&self, key: &str, least: u32, most: u32, absent: Option<u32>) -> Result<u32, JobFault>
-        requires from { ForSome absent (λ value. least ≤ value) }
-        requires to { ForSome absent (λ value. value ≤ most) }
-        ensures ok { IfOk result (λ n. row key.now (spec.whole least most) absent (table_view self.now.table) ≡ Ok n) }
+    pub(crate) fn integer(
+        &self,
+        key: &str,
+        least: u32,
+        most: u32,
+        default: Option<u32>,
+    ) -> Result<u32, JobFault>
+        requires from { ForSome default (λ value. least ≤ value) }
+        requires to { ForSome default (λ value. value ≤ most) }
+        ensures ok { IfOk result (λ n. row key.now (spec.integer_in least most) default (table_view self.now.table) ≡ Ok n) }
         ensures refused { IfErr result (λ e. e ≢ JobFault.OutOfMemory
-            → row key.now (spec.whole least most) absent (table_view self.now.table) ≡ Err e) }
+            → row key.now (spec.integer_in least most) default (table_view self.now.table) ≡ Err e) }
         ensures from { IfOk result (λ n. least ≤ n) }
         ensures to { IfOk result (λ n. n ≤ most) }
     {
         match self.get(key) {
-            Some(value) => kinds::whole(self.alloc, key, value, least, most),
-            None => self.absent(key, absent),
+            Some(value) => kinds::integer(self.alloc, key, value, least, most),
+            None => self.or_default(key, default),
         }
     }
 
     /// The boolean under a key.
-    pub(crate) fn flag(&self, key: &str, absent: Option<bool>) -> Result<bool, JobFault>
-        ensures ok { IfOk result (λ b. row key.now spec.flag absent (table_view self.now.table) ≡ Ok b) }
+    pub(crate) fn boolean(&self, key: &str, default: Option<bool>) -> Result<bool, JobFault>
+        ensures ok { IfOk result (λ b. row key.now spec.boolean_value default (table_view self.now.table) ≡ Ok b) }
         ensures refused { IfErr result (λ e. e ≢ JobFault.OutOfMemory
-            → row key.now spec.flag absent (table_view self.now.table) ≡ Err e) }
+            → row key.now spec.boolean_value default (table_view self.now.table) ≡ Err e) }
     {
         match self.get(key) {
-            Some(value) => kinds::flag(self.alloc, key, value),
-            None => self.absent(key, absent),
+            Some(value) => kinds::boolean(self.alloc, key, value),
+            None => self.or_default(key, default),
         }
     }
 
     /// The program that the string under a key names.
-    pub(crate) fn program(&self, key: &str, absent: Option<Name>) -> Result<Name, JobFault>
-        ensures ok { IfOk result (λ name. row key.now spec.program absent (table_view self.now.table) ≡ Ok name) }
+    pub(crate) fn program(&self, key: &str, default: Option<Name>) -> Result<Name, JobFault>
+        ensures ok { IfOk result (λ name. row key.now spec.program_name default (table_view self.now.table) ≡ Ok name) }
         ensures refused { IfErr result (λ e. e ≢ JobFault.OutOfMemory
-            → row key.now spec.program absent (table_view self.now.table) ≡ Err e) }
+            → row key.now spec.program_name default (table_view self.now.table) ≡ Err e) }
     {
         match self.get(key) {
             Some(value) => kinds::program(self.alloc, key, value),
-            None => self.absent(key, absent),
+            None => self.or_default(key, default),
         }
     }
 
     /// The array of integers under a key, at most `longest` of them.
-    pub(crate) fn wholes(&self, key: &str, longest: usize, absent: Option<Items<u32>>) -> Result<Items<u32>, JobFault>
-        requires { ForSome absent (λ numbers. length numbers ≤ longest) }
-        ensures ok { IfOk result (λ numbers. row key.now (spec.wholes longest 4294967295) absent (table_view self.now.table)
+    pub(crate) fn integers(
+        &self,
+        key: &str,
+        longest: usize,
+        default: Option<Items<u32>>,
+    ) -> Result<Items<u32>, JobFault>
+        requires { ForSome default (λ numbers. length numbers ≤ longest) }
+        ensures ok { IfOk result (λ numbers. row key.now (spec.integers_in longest 4294967295) default (table_view self.now.table)
             ≡ Ok numbers) }
         ensures refused { IfErr result (λ e. e ≢ JobFault.OutOfMemory
-            → row key.now (spec.wholes longest 4294967295) absent (table_view self.now.table) ≡ Err e) }
+            → row key.now (spec.integers_in longest 4294967295) default (table_view self.now.table) ≡ Err e) }
         ensures to { IfOk result (λ numbers. length numbers ≤ longest) }
     {
         match self.get(key) {
-            Some(value) => kinds::wholes(self.alloc, key, value, longest),
-            None => self.absent(key, absent),
+            Some(value) => kinds::integers(self.alloc, key, value, longest),
+            None => self.or_default(key, default),
         }
     }
 }

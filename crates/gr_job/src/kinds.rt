@@ -12,39 +12,45 @@ use std::alloc::Global;
 use toml::Value;
 
 /// An integer from `least` to `most`.
-pub(crate) fn whole(alloc: Global, key: &str, value: &Value, least: u32, most: u32) -> Result<u32, JobFault>
-    ensures ok { IfOk result (λ n. spec.whole least most key.now (view value.now) ≡ Ok n) }
+pub(crate) fn integer(
+    alloc: Global,
+    key: &str,
+    value: &Value,
+    least: u32,
+    most: u32,
+) -> Result<u32, JobFault>
+    ensures ok { IfOk result (λ n. spec.integer_in least most key.now (view value.now) ≡ Ok n) }
     ensures refused { IfErr result (λ e. e ≢ JobFault.OutOfMemory
-        → spec.whole least most key.now (view value.now) ≡ Err e) }
+        → spec.integer_in least most key.now (view value.now) ≡ Err e) }
     ensures from { IfOk result (λ n. least ≤ n) }
     ensures to { IfOk result (λ n. n ≤ most) }
 {
-    let Some(integer) = value.as_integer() else {
+    let Some(n) = value.as_integer() else {
         return Err(JobFault::WrongType(KeyText::new(alloc, key)?));
     };
-    match u32::try_from(integer) {
+    match u32::try_from(n) {
         Ok(n) if least <= n && n <= most => Ok(n),
         _ => Err(JobFault::OutOfRange(KeyText::new(alloc, key)?)),
     }
 }
 
 /// A boolean.
-pub(crate) fn flag(alloc: Global, key: &str, value: &Value) -> Result<bool, JobFault>
-    ensures ok { IfOk result (λ b. spec.flag key.now (view value.now) ≡ Ok b) }
+pub(crate) fn boolean(alloc: Global, key: &str, value: &Value) -> Result<bool, JobFault>
+    ensures ok { IfOk result (λ b. spec.boolean_value key.now (view value.now) ≡ Ok b) }
     ensures refused { IfErr result (λ e. e ≢ JobFault.OutOfMemory
-        → spec.flag key.now (view value.now) ≡ Err e) }
+        → spec.boolean_value key.now (view value.now) ≡ Err e) }
 {
     match value.as_bool() {
-        Some(flag) => Ok(flag),
+        Some(value) => Ok(value),
         None => Err(JobFault::WrongType(KeyText::new(alloc, key)?)),
     }
 }
 
 /// A string that names a program.
 pub(crate) fn program(alloc: Global, key: &str, value: &Value) -> Result<Name, JobFault>
-    ensures ok { IfOk result (λ name. spec.program key.now (view value.now) ≡ Ok name) }
+    ensures ok { IfOk result (λ name. spec.program_name key.now (view value.now) ≡ Ok name) }
     ensures refused { IfErr result (λ e. e ≢ JobFault.OutOfMemory
-        → spec.program key.now (view value.now) ≡ Err e) }
+        → spec.program_name key.now (view value.now) ≡ Err e) }
 {
     match value.as_str() {
         Some(text) => Name::of(text).ok_or(JobFault::UnknownProgram),
@@ -53,10 +59,15 @@ pub(crate) fn program(alloc: Global, key: &str, value: &Value) -> Result<Name, J
 }
 
 /// An array of at most `longest` integers, each from 0 to 4294967295.
-pub(crate) fn wholes(alloc: Global, key: &str, value: &Value, longest: usize) -> Result<Items<u32>, JobFault>
-    ensures ok { IfOk result (λ numbers. spec.wholes longest 4294967295 key.now (view value.now) ≡ Ok numbers) }
+pub(crate) fn integers(
+    alloc: Global,
+    key: &str,
+    value: &Value,
+    longest: usize,
+) -> Result<Items<u32>, JobFault>
+    ensures ok { IfOk result (λ numbers. spec.integers_in longest 4294967295 key.now (view value.now) ≡ Ok numbers) }
     ensures refused { IfErr result (λ e. e ≢ JobFault.OutOfMemory
-        → spec.wholes longest 4294967295 key.now (view value.now) ≡ Err e) }
+        → spec.integers_in longest 4294967295 key.now (view value.now) ≡ Err e) }
     ensures to { IfOk result (λ numbers. length numbers ≤ longest) }
 {
     let Some(array) = value.as_array() else {
@@ -80,11 +91,15 @@ fn are_integers(values: &[Value]) -> bool
 }
 
 /// The numbers that the values are. `None` where one is none, or where there are more than `longest`.
-fn numbers(alloc: Global, values: &[Value], longest: usize) -> Result<Option<Items<u32>>, OutOfMemory>
+fn numbers(
+    alloc: Global,
+    values: &[Value],
+    longest: usize,
+) -> Result<Option<Items<u32>>, OutOfMemory>
     ensures { IfOk result (λ numbers. numbers
         ≡ (if spec.within longest 4294967295 (map view values.now)
-           then Some (filter_map (spec.natural 4294967295) (map view values.now))
-           else None)) }
+        then Some (filter_map (spec.natural 4294967295) (map view values.now))
+        else None)) }
 {
     if values.len() > longest {
         return Ok(None);

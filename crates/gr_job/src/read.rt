@@ -1,5 +1,5 @@
 ghost use Rattle.std.specs.Prelude.{◌≡◌, ◌≢◌, IfOk, IfErr};
-ghost use Rattle.gr_job.specs.Job.{values_of, refused_if as refused_where, job_of, job_of_table};
+ghost use Rattle.gr_job.specs.Job as spec;
 ghost use Rattle.toml.specs.View.{table_view};
 
 use crate::document::Document;
@@ -27,8 +27,8 @@ use std::alloc::Global;
 /// are looked at in the table's order, and the first that shows a fault gives it: it is missing, of a wrong type or out
 /// of its range; `program` names no program. Time and memory are linear in the document, but for `toml`'s own.
 pub fn read_job(alloc: Global, bytes: &[u8]) -> Result<Job, JobFault>
-    ensures ok { IfOk result (λ job. job_of bytes.now ≡ Ok (values_of job)) }
-    ensures refused { IfErr result (λ fault. fault ≢ JobFault.OutOfMemory → job_of bytes.now ≡ Err fault) }
+    ensures ok { IfOk result (λ job. spec.job_of bytes.now ≡ Ok (spec.values_of job)) }
+    ensures refused { IfErr result (λ fault. fault ≢ JobFault.OutOfMemory → spec.job_of bytes.now ≡ Err fault) }
 {
     let document = Document::parse(alloc, bytes)?;
     read_document(alloc, &document)
@@ -36,21 +36,25 @@ pub fn read_job(alloc: Global, bytes: &[u8]) -> Result<Job, JobFault>
 
 #[tactic(auto, unfolding(crate::specs::Job::job_of_table))]
 fn read_document(alloc: Global, document: &Document) -> Result<Job, JobFault>
-    ensures ok { IfOk result (λ job. job_of_table (table_view document.now.table) ≡ Ok (values_of job)) }
+    ensures ok { IfOk result (λ job. spec.job_of_table (table_view document.now.table) ≡ Ok (spec.values_of job)) }
     ensures refused { IfErr result (λ fault. fault ≢ JobFault.OutOfMemory
-        → job_of_table (table_view document.now.table) ≡ Err fault) }
+        → spec.job_of_table (table_view document.now.table) ≡ Err fault) }
 {
     document.refuse_unknown_keys()?;
-    let places = document.whole("places", 1, 64, None)?;
-    let spares = document.whole("spares", 0, 64, Some(0))?;
-    let losses = document.whole("losses", 0, 7, Some(1))?;
-    let theta = document.whole("theta", 0, u32::MAX, Some(100))?;
-    let rounds = document.whole("rounds", 1, 10_000, Some(1_000))?;
-    let undirected = document.flag("undirected", Some(false))?;
+    let places = document.integer("places", 1, 64, None)?;
+    let spares = document.integer("spares", 0, 64, Some(0))?;
+    let losses = document.integer("losses", 0, 7, Some(1))?;
+    let theta = document.integer("theta", 0, u32::MAX, Some(100))?;
+    let rounds = document.integer("rounds", 1, 10_000, Some(1_000))?;
+    let undirected = document.boolean("undirected", Some(false))?;
     let name = document.program("program", None)?;
-    let source = document.whole("source", 0, u32::MAX, refused_if(name.needs_source(), 0))?;
-    let k = document.whole("k", 0, u32::MAX, refused_if(name.needs_k(), 0))?;
-    let seeds = document.wholes("seeds", 64, refused_if(name.needs_seeds(), Items::new(alloc)))?;
+    let source = document.integer("source", 0, u32::MAX, required_if(name.needs_source(), 0))?;
+    let k = document.integer("k", 0, u32::MAX, required_if(name.needs_k(), 0))?;
+    let seeds = document.integers(
+        "seeds",
+        64,
+        required_if(name.needs_seeds(), Items::new(alloc)),
+    )?;
     Ok(Job {
         places: places as u8,
         spares: spares as u8,
@@ -63,8 +67,8 @@ fn read_document(alloc: Global, document: &Document) -> Result<Job, JobFault>
 }
 
 /// How the absence of a key is taken: refused where it is needed, and as a value elsewhere.
-fn refused_if<T: Drop>(needed: bool, value: T) -> Option<T>
-    ensures { result ≡ refused_where needed value }
+fn required_if<T: Drop>(needed: bool, value: T) -> Option<T>
+    ensures { result ≡ spec.required_if needed value }
 {
     if needed { None } else { Some(value) }
 }

@@ -11,7 +11,8 @@ returns-in-None c =
 
 pub loop-value-preserved : goal.loop-value-preserved
 loop-value-preserved c =
-    let some : Some c.in-Some.n ≡ natural 4294967295 (view _) = rw (← c.value-item.is) c.in-Some.ensures in
-    ( c.loop-value.invariant.0
-    , c.in_ok-push-in-Some.ensures.ok ∙ ap (λ ns. ns ++ c.in-Some.n ∷ []) c.loop-value.invariant.1 ∙ sym (numbers_of-more view 4294967295 c.args.values.now c.loop-value.value-index c.value-item.result _ c.loop-value-test.true some)
-    , all_numbers-more view 4294967295 c.args.values.now c.loop-value.value-index c.value-item.result _ c.loop-value-test.true some c.loop-value.invariant.2)
+    let some : Some c.in-Some.n ≡ natural 4294967295 (view _) = rw (← c.value-item.is) c.in-Some.ensures in (
+      c.loop-value.invariant.0,
+      c.in_ok-push-in-Some.ensures.ok ∙ ap (λ ns. ns ++ c.in-Some.n ∷ []) c.loop-value.invariant.1 ∙ sym (numbers_of-more view 4294967295 c.args.values.now c.loop-value.value-index c.value-item.result _ c.loop-value-test.true some),
+      all_numbers-more view 4294967295 c.args.values.now c.loop-value.value-index c.value-item.result _ c.loop-value-test.true some c.loop-value.invariant.2,
+    )
