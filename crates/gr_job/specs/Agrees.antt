@@ -5,4 +5,5 @@ use Rattle.gr_job.specs.declared.fault.JobFault.TheVariants.{OutOfMemory}
 
 -- the result is the wanted one, unless memory ran out
 abbrev pub AgreesWith : {A : Type 0} → Result A JobFault → Result A JobFault → Type 0
-AgreesWith result wanted = MatchResult result (λ value. wanted ≡ Ok value) (λ fault. fault ≢ OutOfMemory → wanted ≡ Err fault)
+AgreesWith result wanted =
+    MatchResult result (λ value. wanted ≡ Ok value) (λ fault. fault ≢ OutOfMemory → wanted ≡ Err fault)

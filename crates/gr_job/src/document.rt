@@ -72,7 +72,8 @@ impl Document {
 
     /// The value under a key.
     fn get(&self, key: &str) -> Option<&Value>
-        ensures { option_map (λ value. view value.now) result ≡ get_member key.now (table_view self.now.table) }
+        ensures { option_map (λ value. view value.now) result
+            ≡ get_member key.now (table_view self.now.table) }
     {
         self.table.get(key)
     }
@@ -99,7 +100,8 @@ impl Document {
     ) -> Result<u32, JobFault>
         requires from { ForSome default (λ value. least ≤ value) }
         requires to { ForSome default (λ value. value ≤ most) }
-        ensures value { AgreesWith result (row key.now (spec.integer_in least most) default (table_view self.now.table)) }
+        ensures value { AgreesWith result
+            (row key.now (spec.integer_in least most) default (table_view self.now.table)) }
         ensures from { IfOk result (λ n. least ≤ n) }
         ensures to { IfOk result (λ n. n ≤ most) }
     {
@@ -137,7 +139,8 @@ impl Document {
         default: Option<Items<u32>>,
     ) -> Result<Items<u32>, JobFault>
         requires { ForSome default (λ numbers. length numbers ≤ longest) }
-        ensures value { AgreesWith result (row key.now (spec.integers_in longest 4294967295) default (table_view self.now.table)) }
+        ensures value { AgreesWith result
+            (row key.now (spec.integers_in longest 4294967295) default (table_view self.now.table)) }
         ensures to { IfOk result (λ numbers. length numbers ≤ longest) }
     {
         match self.get(key) {
