@@ -1,14 +1,13 @@
 -- What an array is read as, from the tests that its elements passed.
-use Rattle.std.proofs.Common.{◌≡◌, ℕ, suc, ◌≤◌, ◌<◌, Bool, true, false, ◌&&◌, nat_le, List, [], ◌∷◌, map, length, Option, Some, None, Ok, Err, if◌then◌else◌, refl, sym, ap, ◌∙◌, subst, arith}
-use Rattle.std.specs.Option.{is_some}
+use Rattle.std.proofs.Common.{◌≡◌, ℕ, suc, ◌≤◌, Bool, true, false, nat_le, List, [], ◌∷◌, map, length, Option, Some, None, Ok, Err, if◌then◌else◌, refl, arith}
 use Rattle.std.specs.List.{filter_map, list_all, cons_option}
 use Rattle.std.proofs.lemmas.Bool.{and_parts}
 use Rattle.std.proofs.lemmas.Bool.Decides.{nat_tests}
 use Rattle.std.proofs.lemmas.List.Folds.{list_all-map}
-use Rattle.toml.specs.Data.{Data, string, integer, float, boolean, datetime, array, table, as_array, Items, no_items, item}
+use Rattle.toml.specs.Data.{Data, string, integer, float, boolean, datetime, array, table, as_array, Items}
 use Rattle.toml.specs.View.{items_of}
 use Rattle.gr_job.specs.declared.fault.JobFault.TheVariants.{WrongType, OutOfRange}
-use Rattle.gr_job.specs.Kinds.{elements, is_integer, natural, within, integers_in}
+use Rattle.gr_job.specs.Kinds.{is_integer, natural, within, integers_in}
 use Rattle.gr_job.proofs.Numbers.{elements-items_of}
 
 data_of_array : (d : Data) (items : Items) → Some items ≡ as_array d → d ≡ array items

@@ -1,11 +1,10 @@
 -- The first unknown key by bytes is the first in a map whose keys rise.
-use Rattle.std.proofs.Common.{◌≡◌, ℕ, Bool, true, false, not, List, [], ◌∷◌, filter, fold, Option, Some, None, Ok, Err, option_map, String, Global, Less, string_bytes, nat_cmp, refl, ap, ◌∙◌, inl, inr}
+use Rattle.std.proofs.Common.{◌≡◌, ℕ, Bool, true, false, not, List, [], ◌∷◌, filter, fold, Some, None, Ok, Err, option_map, String, Global, Less, string_bytes, nat_cmp, refl, ap, inl, inr}
 use Rattle.std.specs.List.{AllByRecursion, find}
 use Rattle.std.specs.List.Sorted.{IsStrictlySortedBy}
 use Rattle.std.specs.Map.{keys_of as map_keys}
 use Rattle.std.specs.String.{string_cmp}
 use Rattle.std.specs.Cmp.Lexicographic.{slice_cmp}
-use Rattle.std.specs.Ordering.{ordering_reverse}
 use Rattle.std.proofs.lemmas.Bool.{cases_Bool}
 use Rattle.std.proofs.lemmas.Cmp.{nat_list_cmp_total}
 use Rattle.toml.specs.View.{members_view}

@@ -4,7 +4,7 @@ use Rattle.std.specs.Str.{is_utf8, chars}
 use Rattle.toml.proofs.OnLiterals.{toml_on_literals}
 use Rattle.gr_job.specs.declared.fault.JobFault.TheVariants.{NotToml, UnknownKey, Missing, OutOfRange}
 use Rattle.gr_job.specs.declared.job.ProgramChoice.TheVariants.{Shortest}
-use Rattle.gr_job.specs.Job.{JobValues, job_of_table, job_of}
+use Rattle.gr_job.specs.Job.{job_of_table, job_of}
 
 places_past_the_most : job_of (codes "places = 65") ≡ Err (OutOfRange (codes "places"))
 unfolding toml_on_literals is_utf8 chars job_of_table
@@ -23,7 +23,13 @@ unfolding toml_on_literals is_utf8 chars job_of_table
 no_value = refl
 
 defaults : job_of (codes "places = 2\nprogram = \"shortest\"\nsource = 0") ≡ Ok (record {
-  places = 2; spares = 0; losses = 1; theta = 100; rounds = 1000; undirected = false; program = Shortest 0
+  places = 2;
+  spares = 0;
+  losses = 1;
+  theta = 100;
+  rounds = 1000;
+  undirected = false;
+  program = Shortest 0;
 })
 unfolding toml_on_literals is_utf8 chars job_of_table
 defaults = refl

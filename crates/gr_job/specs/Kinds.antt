@@ -1,8 +1,7 @@
 -- The types of values that a job's keys take, with their ranges.
-use Rattle.std.specs.Prelude.{◌∷◌, [], List, ℕ, ℤ, pos, negsuc, length, Bool, true, false, ◌&&◌, nat_le, Option, Some, None, is_some, Result, Ok, Err, if◌then◌else◌}
+use Rattle.std.specs.Prelude.{◌∷◌, [], List, ℕ, pos, negsuc, length, Bool, ◌&&◌, nat_le, Option, Some, None, is_some, Result, Ok, Err, if◌then◌else◌}
 use Rattle.std.specs.List.{list_all, filter_map}
-use Rattle.std.specs.Option.{option_map_or}
-use Rattle.toml.specs.Data.{Data, string, integer, float, boolean, datetime, array, table, Items, no_items, item, as_integer}
+use Rattle.toml.specs.Data.{Data, string, integer, boolean, array, Items, no_items, item, as_integer}
 use Rattle.gr_job.specs.declared.fault.JobFault.{JobFault}
 use Rattle.gr_job.specs.declared.fault.JobFault.TheVariants.{WrongType, OutOfRange, UnknownProgram}
 use Rattle.gr_job.specs.declared.name.Name.{Name}

@@ -1,3 +1,4 @@
+pub mod Agrees
 pub mod Seeds
 pub mod Names
 pub mod Kinds

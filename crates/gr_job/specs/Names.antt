@@ -1,5 +1,5 @@
 -- The programs by name, and the parameters that each needs.
-use Rattle.std.specs.Prelude.{◌∷◌, [], List, ℕ, Bool, true, false, Option, Some, None, if◌then◌else◌, bytes_eq, codes}
+use Rattle.std.specs.Prelude.{List, ℕ, Bool, true, false, Option, Some, None, if◌then◌else◌, bytes_eq, codes}
 use Rattle.gr_job.specs.declared.job.ProgramChoice.{ProgramChoice}
 use Rattle.gr_job.specs.declared.job.ProgramChoice.TheVariants as program
 use Rattle.gr_job.specs.declared.name.Name.{Name}

@@ -5,6 +5,7 @@ ghost use Rattle.std.specs.String.{string_cmp};
 ghost use Rattle.std.specs.Option.{ForSome};
 ghost use Rattle.toml.specs.Data.{get_member};
 ghost use Rattle.toml.specs.View.{view, table_view};
+ghost use Rattle.gr_job.specs.Agrees.{AgreesWith};
 ghost use Rattle.gr_job.specs.Job.{document_of, only_known_keys, row};
 ghost use Rattle.gr_job.specs.Keys.{is_job_key as is_in_job};
 ghost use Rattle.gr_job.specs.Kinds as spec;
@@ -61,9 +62,7 @@ impl Document {
 
     /// Refuses a document with a key that no job has.
     pub(crate) fn refuse_unknown_keys(&self) -> Result<(), JobFault>
-        ensures ok { IfOk result (λ _. only_known_keys (table_view self.now.table) ≡ Ok tt) }
-        ensures refused { IfErr result (λ e. e ≢ JobFault.OutOfMemory
-            → only_known_keys (table_view self.now.table) ≡ Err e) }
+        ensures { AgreesWith result (only_known_keys (table_view self.now.table)) }
     {
         match first_unknown(&self.table) {
             Some(key) => Err(JobFault::UnknownKey(KeyText::new(self.alloc, key.as_str())?)),
@@ -73,7 +72,8 @@ impl Document {
 
     /// The value under a key.
     fn get(&self, key: &str) -> Option<&Value>
-        ensures { option_map (λ value. view value.now) result ≡ get_member key.now (table_view self.now.table) }
+        ensures { option_map (λ value. view value.now) result
+            ≡ get_member key.now (table_view self.now.table) }
     {
         self.table.get(key)
     }
@@ -100,9 +100,8 @@ impl Document {
     ) -> Result<u32, JobFault>
         requires from { ForSome default (λ value. least ≤ value) }
         requires to { ForSome default (λ value. value ≤ most) }
-        ensures ok { IfOk result (λ n. row key.now (spec.integer_in least most) default (table_view self.now.table) ≡ Ok n) }
-        ensures refused { IfErr result (λ e. e ≢ JobFault.OutOfMemory
-            → row key.now (spec.integer_in least most) default (table_view self.now.table) ≡ Err e) }
+        ensures value { AgreesWith result
+            (row key.now (spec.integer_in least most) default (table_view self.now.table)) }
         ensures from { IfOk result (λ n. least ≤ n) }
         ensures to { IfOk result (λ n. n ≤ most) }
     {
@@ -114,9 +113,7 @@ impl Document {
 
     /// The boolean under a key.
     pub(crate) fn boolean(&self, key: &str, default: Option<bool>) -> Result<bool, JobFault>
-        ensures ok { IfOk result (λ b. row key.now spec.boolean_value default (table_view self.now.table) ≡ Ok b) }
-        ensures refused { IfErr result (λ e. e ≢ JobFault.OutOfMemory
-            → row key.now spec.boolean_value default (table_view self.now.table) ≡ Err e) }
+        ensures { AgreesWith result (row key.now spec.boolean_value default (table_view self.now.table)) }
     {
         match self.get(key) {
             Some(value) => kinds::boolean(self.alloc, key, value),
@@ -126,9 +123,7 @@ impl Document {
 
     /// The program that the string under a key names.
     pub(crate) fn program(&self, key: &str, default: Option<Name>) -> Result<Name, JobFault>
-        ensures ok { IfOk result (λ name. row key.now spec.program_name default (table_view self.now.table) ≡ Ok name) }
-        ensures refused { IfErr result (λ e. e ≢ JobFault.OutOfMemory
-            → row key.now spec.program_name default (table_view self.now.table) ≡ Err e) }
+        ensures { AgreesWith result (row key.now spec.program_name default (table_view self.now.table)) }
     {
         match self.get(key) {
             Some(value) => kinds::program(self.alloc, key, value),
@@ -144,10 +139,8 @@ impl Document {
         default: Option<Items<u32>>,
     ) -> Result<Items<u32>, JobFault>
         requires { ForSome default (λ numbers. length numbers ≤ longest) }
-        ensures ok { IfOk result (λ numbers. row key.now (spec.integers_in longest 4294967295) default (table_view self.now.table)
-            ≡ Ok numbers) }
-        ensures refused { IfErr result (λ e. e ≢ JobFault.OutOfMemory
-            → row key.now (spec.integers_in longest 4294967295) default (table_view self.now.table) ≡ Err e) }
+        ensures value { AgreesWith result
+            (row key.now (spec.integers_in longest 4294967295) default (table_view self.now.table)) }
         ensures to { IfOk result (λ numbers. length numbers ≤ longest) }
     {
         match self.get(key) {

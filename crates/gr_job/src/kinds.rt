@@ -1,8 +1,9 @@
 //! The types of values that a job's keys take.
 
-ghost use Rattle.std.specs.Prelude.{◌≡◌, ◌≢◌, ◌≤◌, length, map, IfOk, IfErr, if◌then◌else◌};
+ghost use Rattle.std.specs.Prelude.{◌≡◌, ◌≤◌, length, map, IfOk, if◌then◌else◌};
 ghost use Rattle.std.specs.List.{filter_map, list_all};
 ghost use Rattle.toml.specs.View.{view, array_view};
+ghost use Rattle.gr_job.specs.Agrees.{AgreesWith};
 ghost use Rattle.gr_job.specs.Kinds as spec;
 
 use crate::name::Name;
@@ -19,9 +20,7 @@ pub(crate) fn integer(
     least: u32,
     most: u32,
 ) -> Result<u32, JobFault>
-    ensures ok { IfOk result (λ n. spec.integer_in least most key.now (view value.now) ≡ Ok n) }
-    ensures refused { IfErr result (λ e. e ≢ JobFault.OutOfMemory
-        → spec.integer_in least most key.now (view value.now) ≡ Err e) }
+    ensures value { AgreesWith result (spec.integer_in least most key.now (view value.now)) }
     ensures from { IfOk result (λ n. least ≤ n) }
     ensures to { IfOk result (λ n. n ≤ most) }
 {
@@ -36,9 +35,7 @@ pub(crate) fn integer(
 
 /// A boolean.
 pub(crate) fn boolean(alloc: Global, key: &str, value: &Value) -> Result<bool, JobFault>
-    ensures ok { IfOk result (λ b. spec.boolean_value key.now (view value.now) ≡ Ok b) }
-    ensures refused { IfErr result (λ e. e ≢ JobFault.OutOfMemory
-        → spec.boolean_value key.now (view value.now) ≡ Err e) }
+    ensures { AgreesWith result (spec.boolean_value key.now (view value.now)) }
 {
     match value.as_bool() {
         Some(value) => Ok(value),
@@ -48,9 +45,7 @@ pub(crate) fn boolean(alloc: Global, key: &str, value: &Value) -> Result<bool, J
 
 /// A string that names a program.
 pub(crate) fn program(alloc: Global, key: &str, value: &Value) -> Result<Name, JobFault>
-    ensures ok { IfOk result (λ name. spec.program_name key.now (view value.now) ≡ Ok name) }
-    ensures refused { IfErr result (λ e. e ≢ JobFault.OutOfMemory
-        → spec.program_name key.now (view value.now) ≡ Err e) }
+    ensures { AgreesWith result (spec.program_name key.now (view value.now)) }
 {
     match value.as_str() {
         Some(text) => Name::of(text).ok_or(JobFault::UnknownProgram),
@@ -65,9 +60,7 @@ pub(crate) fn integers(
     value: &Value,
     longest: usize,
 ) -> Result<Items<u32>, JobFault>
-    ensures ok { IfOk result (λ numbers. spec.integers_in longest 4294967295 key.now (view value.now) ≡ Ok numbers) }
-    ensures refused { IfErr result (λ e. e ≢ JobFault.OutOfMemory
-        → spec.integers_in longest 4294967295 key.now (view value.now) ≡ Err e) }
+    ensures value { AgreesWith result (spec.integers_in longest 4294967295 key.now (view value.now)) }
     ensures to { IfOk result (λ numbers. length numbers ≤ longest) }
 {
     let Some(array) = value.as_array() else {

@@ -22,13 +22,18 @@ use std::alloc::Global;
 /// | `k` | integer 0 to 4294967295 | `Missing` for `core` |
 /// | `seeds` | array of at most 64 integers 0 to 4294967295 | `Missing` for `reach` |
 ///
-/// A parameter that the program does not use is checked and ignored. Bytes that are not UTF-8, or that the crate `toml`
-/// refuses, are `NotToml`. Then `UnknownKey` names the first key by bytes that the table does not have. Then the keys
-/// are looked at in the table's order, and the first that shows a fault gives it: it is missing, of a wrong type or out
-/// of its range; `program` names no program. Time and memory are linear in the document, but for `toml`'s own.
+/// A parameter that the program does not use is checked and ignored. These refusals come in this order:
+///
+/// - `NotToml` for bytes that are not UTF-8, or that the crate `toml` refuses;
+/// - `UnknownKey` for the first key by bytes that the table does not have;
+/// - and then key by key, in the table's order: `Missing`, `WrongType`, which counts for an element of `seeds` too,
+///   and `OutOfRange`. Where `program` is a string and no program's name, `UnknownProgram` comes in its place.
+///
+/// `OutOfMemory` may come in place of any answer. What follows the crate `toml` is linear in the document.
 pub fn read_job(alloc: Global, bytes: &[u8]) -> Result<Job, JobFault>
     ensures ok { IfOk result (λ job. spec.job_of bytes.now ≡ Ok (spec.values_of job)) }
-    ensures refused { IfErr result (λ fault. fault ≢ JobFault.OutOfMemory → spec.job_of bytes.now ≡ Err fault) }
+    ensures refused { IfErr result (λ fault. fault ≢ JobFault.OutOfMemory
+        → spec.job_of bytes.now ≡ Err fault) }
 {
     let document = Document::parse(alloc, bytes)?;
     read_document(alloc, &document)
@@ -36,7 +41,8 @@ pub fn read_job(alloc: Global, bytes: &[u8]) -> Result<Job, JobFault>
 
 #[tactic(auto, unfolding(crate::specs::Job::job_of_table))]
 fn read_document(alloc: Global, document: &Document) -> Result<Job, JobFault>
-    ensures ok { IfOk result (λ job. spec.job_of_table (table_view document.now.table) ≡ Ok (spec.values_of job)) }
+    ensures ok { IfOk result (λ job.
+        spec.job_of_table (table_view document.now.table) ≡ Ok (spec.values_of job)) }
     ensures refused { IfErr result (λ fault. fault ≢ JobFault.OutOfMemory
         → spec.job_of_table (table_view document.now.table) ≡ Err fault) }
 {
