@@ -18,7 +18,7 @@ use Rattle.gr_uncut.specs.declared.index.Index.{Index}
 use Rattle.gr_uncut.specs.Index.{arc_of, with_id, arcs_at, targets_at, IsIndex}
 use Rattle.gr_uncut.specs.Round.{Reads, brought, applied, is_woken, Holds}
 use Rattle.gr_uncut.proofs.Positions.{list_any-map, same-position, place-of}
-use Rattle.gr_uncut.proofs.Tests.{list_any-same, list_any-filter, same_tests}
+use Rattle.gr_uncut.proofs.Passing.{list_any-same, list_any-filter, same_tests}
 
 head : {B : Type 0} {b c : B} {bs cs : List B} → b ∷ bs ≡ c ∷ cs → b ≡ c
 head q = cc

@@ -13,7 +13,7 @@ use std::alloc::Global;
 
 /// The last round, and the values after it in rising vertex order.
 #[derive(Debug, Drop)]
-pub struct PlainEnd<V: Copy> {
+pub struct PlainEnd<V: Datum> {
     pub last: u32,
     pub values: Items<ValueOf<V>>,
 }

@@ -40,8 +40,8 @@ returns g c =
           (c.put_values.ensures.kept p.is_value before.kept (rw c.as_slice-5.ensures c.in_ok-new.ensures.kept))
           (rw (count, ← c.requires.long, ← c.in_ok-next.ensures.long, ← c.as_slice-4.ensures) c.in_ok-next-2.ensures.within)
           (λ k lt.
-              let low : k < length c.as_slice-4.result.now = rw (c.as_slice-4.ensures, c.in_ok-next.ensures.long, c.requires.long, ← count) lt in
-              ordered k low ∙ woken k ∙ woken-is p es vs index c.requires.index s xs ks before rise c.vertex_count-count.ensures.ends k lt);
+          let low : k < length c.as_slice-4.result.now = rw (c.as_slice-4.ensures, c.in_ok-next.ensures.long, c.requires.long, ← count) lt in
+          ordered k low ∙ woken k ∙ woken-is p es vs index c.requires.index s xs ks before rise c.vertex_count-count.ensures.ends k lt);
       long = c.in_ok-next.ensures.long ∙ c.requires.long;
       stamps = c.in_ok-next.ensures.stamps;
     }
