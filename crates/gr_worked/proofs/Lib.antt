@@ -1,1 +1,6 @@
-mod Short
+mod Losses
+mod OwedValues
+mod Rebirths
+mod Rounds
+mod SecondCrash
+mod TornAppend

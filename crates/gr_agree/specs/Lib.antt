@@ -1,0 +1,10 @@
+pub mod Agree
+pub mod Hosts
+pub mod Logs
+pub mod Network
+pub mod Places
+pub mod Rebuilt
+pub mod Reports
+pub mod TrueBody
+pub mod TrueRound
+pub mod Truth
