@@ -1,5 +1,9 @@
 pub mod Agree
+pub mod Bounds
+pub mod FirstTruth
+pub mod Headline
 pub mod Hosts
+pub mod Laws
 pub mod Logs
 pub mod Network
 pub mod Places
