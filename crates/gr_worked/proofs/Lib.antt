@@ -1,6 +1,13 @@
+mod Agreement
 mod Losses
+mod LossesAgree
+mod Numbers
 mod OwedValues
+mod OwedValuesAgree
 mod Rebirths
+mod RebirthsAgree
 mod Rounds
+mod RoundsAgree
 mod SecondCrash
 mod TornAppend
+mod TornAppendAgree
