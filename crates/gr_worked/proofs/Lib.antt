@@ -6,6 +6,7 @@ mod OwedValues
 mod OwedValuesAgree
 mod Rebirths
 mod RebirthsAgree
+mod Repaired
 mod Rounds
 mod RoundsAgree
 mod SecondCrash
