@@ -2,7 +2,7 @@
 use Rattle.std.proofs.Common.{◌≡◌, ℕ, Bool, List, [], ◌∷◌, refl, true, false, map}
 use Rattle.std.specs.Prelude.{◌==◌, Some, None, Option}
 use Rattle.gr_program.specs.declared.copy.VertexCopy.{VertexCopy}
-use Rattle.gr_program.specs.Rounds.{State, first_state}
+use Rattle.gr_program.specs.Rounds.{first_state}
 use Rattle.gr_cut.proofs.Graphs.{path, star}
 use Rattle.gr_copies.specs.declared.view.RebuildView.{RebuildView}
 use Rattle.gr_copies.specs.Holders.{first_holders}

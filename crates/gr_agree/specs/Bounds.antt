@@ -1,21 +1,19 @@
 -- That runs end, how many events they take, and what is never copied.
-use Rattle.std.specs.Prelude.{ℕ, suc, ◌+◌, ◌*◌, ◌≡◌, ◌≢◌, ◌<◌, ◌≤◌, false, ◌==◌, IsTrue, List, [], ◌∷◌, Some, None, length}
+use Rattle.std.specs.Prelude.{ℕ, ◌+◌, ◌*◌, ◌≡◌, ◌<◌, ◌≤◌, false, ◌==◌, IsTrue, List, [], ◌∷◌, Some, None, length}
 use Rattle.std.specs.List.{AllByRecursion as Each}
 use Rattle.gr_program.specs.Program.{Program, ProgramLaws}
 use Rattle.gr_batch.specs.Bodies.{values_of, grants_of}
 use Rattle.gr_sched.specs.declared.event.Event.{Event}
 use Rattle.gr_sched.specs.declared.event.Line.{Line}
 use Rattle.gr_sched.specs.declared.event.Line.TheVariants as line
-use Rattle.gr_view.specs.Modes.{is_over}
-use Rattle.gr_view.specs.Decisions.{parties, looked_at}
+use Rattle.gr_view.specs.Decisions.{looked_at}
 use Rattle.gr_cluster.specs.Tables.{Cluster}
 use Rattle.gr_cluster.specs.Step.{step}
 use Rattle.gr_cluster.specs.Canonical.{next_canonical}
 use Rattle.gr_cluster.specs.Left.{left}
-use Rattle.gr_cluster.specs.Runs.{Position, position_after, IsWhole}
+use Rattle.gr_cluster.specs.Runs.{position_after, IsWhole}
 use Rattle.gr_agree.specs.Truth.{Truth, true_outdegree}
 use Rattle.gr_agree.specs.Agree.{Agree, Invariant}
-use Rattle.gr_agree.specs.Laws.{NamesPlaces}
 use Rattle.gr_agree.specs.Headline.{NamesPlacesAt}
 
 -- every schedule ends: some number of steps leaves none

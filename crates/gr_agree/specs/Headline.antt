@@ -7,13 +7,12 @@ use Rattle.gr_program.specs.Program.{Program, ProgramLaws}
 use Rattle.gr_program.specs.Result.{result_text}
 use Rattle.gr_sched.specs.declared.event.Line.{Line}
 use Rattle.gr_sched.specs.declared.event.Line.TheVariants as line
-use Rattle.gr_view.specs.declared.coordinator.Mode.{Mode}
 use Rattle.gr_view.specs.declared.coordinator.Mode.TheVariants as mode
 use Rattle.gr_cluster.specs.Tables.{Cluster}
 use Rattle.gr_cluster.specs.Load.{Setting, load}
 use Rattle.gr_cluster.specs.GraphIn.{directory_of}
 use Rattle.gr_cluster.specs.Step.{lost_list}
-use Rattle.gr_cluster.specs.Runs.{Position, Played, IsRun}
+use Rattle.gr_cluster.specs.Runs.{Played, IsRun}
 use Rattle.gr_cluster.specs.Budget.{IsWithinBudget}
 use Rattle.gr_cluster.specs.Ending.{ending_of, ending_text}
 use Rattle.gr_cluster.specs.TraceText.{lost_text, unfinished_text}

@@ -11,7 +11,7 @@ use Rattle.gr_batch.specs.declared.outcome.Outcome.TheVariants as outcome
 use Rattle.gr_sched.specs.declared.event.Event.{Event}
 use Rattle.gr_sched.specs.declared.event.Event.TheVariants as event
 use Rattle.gr_view.specs.Modes.{is_round, is_rebuild}
-use Rattle.gr_cluster.specs.Tables.{Host, Cluster, host, is_up, log, effective, effective_arcs, view_of, wanted_in}
+use Rattle.gr_cluster.specs.Tables.{Cluster, host, is_up, log, effective, effective_arcs, view_of, wanted_in}
 use Rattle.gr_cluster.specs.Load.{Setting, load}
 use Rattle.gr_cluster.specs.GraphIn.{graph_of, graph_in}
 use Rattle.gr_cluster.specs.Step.{step}

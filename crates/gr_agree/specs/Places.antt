@@ -1,5 +1,5 @@
 -- The tables, and the places that the coordinator knows of.
-use Rattle.std.specs.Prelude.{ℕ, ◌+◌, ◌≡◌, ◌≢◌, ◌≤◌, Bool, true, false, nat_lt, cond, IsTrue, List, [], length}
+use Rattle.std.specs.Prelude.{ℕ, ◌+◌, ◌≡◌, ◌≢◌, ◌≤◌, Bool, true, false, nat_lt, cond, IsTrue, [], length}
 use Rattle.gr_base.specs.Places.{IsPlaces}
 use Rattle.gr_base.specs.Rising.{has}
 use Rattle.gr_view.specs.declared.coordinator.Mode.{Mode}

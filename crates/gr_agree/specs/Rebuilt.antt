@@ -12,7 +12,7 @@ use Rattle.gr_log.specs.declared.record.LogRecord.{LogRecord}
 use Rattle.gr_rules.specs.Rows.{blank_copy}
 use Rattle.gr_rules.specs.Taken.{is_granter, master_after}
 use Rattle.gr_rules.specs.Grants.{new_holders, is_granted, records_after}
-use Rattle.gr_agree.specs.Truth.{Truth, high, held, held_at, place_of, true_entry, entries_at, hidden, copy_at, rows_at}
+use Rattle.gr_agree.specs.Truth.{Truth, high, held, place_of, true_entry, entries_at, hidden, copy_at, rows_at}
 
 module _ {V : Type 0} (w : RebuildView) where
   abbrev pub true_master_after : Truth V → ℕ → ℕ

@@ -1,7 +1,6 @@
 -- The next round of the committed state, and what a place has staged of it.
 use Rattle.std.specs.Prelude.{ℕ, Bool, true, not, ◌&&◌, ◌||◌, ◌==◌, nat_lt, List, Option, Some, None, map, if◌then◌else◌}
 use Rattle.std.specs.List.{filter, filter_map, list_any}
-use Rattle.gr_base.specs.declared.records.NumberedEdge.{NumberedEdge}
 use Rattle.gr_program.specs.declared.copy.VertexCopy.{VertexCopy}
 use Rattle.gr_program.specs.Program.{Program, total}
 use Rattle.gr_program.specs.Rounds.{contribution, next_value, woke, after_round}

@@ -1,11 +1,11 @@
 -- Single steps and small facts of the cluster, by computation.
-use Rattle.std.proofs.Common.{◌≡◌, ℕ, Bool, List, [], ◌∷◌, refl, true, false, map}
+use Rattle.std.proofs.Common.{◌≡◌, ℕ, List, [], ◌∷◌, refl, true, false, map}
 use Rattle.std.specs.Prelude.{Some, None, Option}
 use Rattle.gr_base.specs.declared.records.NumberedEdge.{NumberedEdge}
 use Rattle.gr_program.specs.declared.copy.VertexCopy.{VertexCopy}
 use Rattle.gr_cut.proofs.Graphs.{edge, triangle}
 use Rattle.gr_copies.specs.Holders.{first_holders}
-use Rattle.gr_log.specs.Log.{empty_log, log_of}
+use Rattle.gr_log.specs.Log.{empty_log}
 use Rattle.gr_log.specs.Directory.{directory_in, edges_in}
 use Rattle.gr_batch.specs.declared.batch.Batch.{Batch}
 use Rattle.gr_batch.specs.declared.body.Body.TheVariants as body
@@ -14,16 +14,12 @@ use Rattle.gr_batch.specs.declared.outcome.Fate.TheVariants as fate
 use Rattle.gr_batch.specs.declared.outcome.Outcome.TheVariants as outcome
 use Rattle.gr_sched.specs.declared.event.Event.TheVariants as event
 use Rattle.gr_sched.specs.declared.event.Line.TheVariants as line
-use Rattle.gr_view.specs.declared.coordinator.Mode.TheVariants as mode
-use Rattle.gr_view.specs.declared.coordinator.Coordinator.{Coordinator}
-use Rattle.gr_view.specs.Decisions.{first_coordinator, at_recovery}
-use Rattle.gr_rules.specs.Rows.{blank_rows}
-use Rattle.gr_rules.specs.Lost.{lost_of}
+use Rattle.gr_view.specs.Decisions.{first_coordinator}
 use Rattle.gr_rules.specs.Grants.{records_after}
 use Rattle.gr_rules.proofs.Programs.{shortest, in_degree, infinite}
 use Rattle.gr_cluster.specs.Tables.{Host, Cluster}
 use Rattle.gr_cluster.specs.Load.{Setting, fresh_host, first_rows, first_arcs, load}
-use Rattle.gr_cluster.specs.GraphIn.{graph_in, graph_of, directory_of}
+use Rattle.gr_cluster.specs.GraphIn.{graph_in, directory_of}
 use Rattle.gr_cluster.specs.Todo.{Todo, todo}
 use Rattle.gr_cluster.specs.Network.{fate_at, received, delivered, dropped}
 use Rattle.gr_cluster.specs.Canonical.{next_canonical}

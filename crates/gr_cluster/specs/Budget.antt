@@ -1,5 +1,5 @@
 -- How many crashes a run bears.
-use Rattle.std.specs.Prelude.{ℕ, zero, suc, ◌+◌, Bool, true, ◌&&◌, nat_lt, nat_le, min, Option, Some, None, length, IsTrue, if◌then◌else◌}
+use Rattle.std.specs.Prelude.{ℕ, zero, suc, ◌+◌, Bool, ◌&&◌, nat_lt, nat_le, min, Option, Some, None, length, IsTrue, if◌then◌else◌}
 use Rattle.std.specs.List.{list_all}
 use Rattle.gr_program.specs.Program.{Program}
 use Rattle.gr_batch.specs.declared.outcome.Outcome.{Outcome}

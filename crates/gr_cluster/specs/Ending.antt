@@ -1,5 +1,5 @@
 -- How a run ends, and what it prints.
-use Rattle.std.specs.Prelude.{ℕ, ◌==◌, List, [], Option, Some, None, flat_map, option_map}
+use Rattle.std.specs.Prelude.{ℕ, ◌==◌, List, [], Some, None, flat_map, option_map}
 use Rattle.std.specs.List.{filter, filter_map}
 use Rattle.gr_program.specs.declared.copy.VertexCopy.{VertexCopy}
 use Rattle.gr_program.specs.declared.program.ValueOf.{ValueOf}
@@ -8,7 +8,7 @@ use Rattle.gr_view.specs.declared.coordinator.Mode.{Mode}
 use Rattle.gr_view.specs.declared.coordinator.Mode.TheVariants as mode
 use Rattle.gr_log.specs.Directory.{with_items}
 use Rattle.gr_base.specs.Places.{below}
-use Rattle.gr_cluster.specs.Tables.{Host, Cluster, host, effective}
+use Rattle.gr_cluster.specs.Tables.{Cluster, host, effective}
 use Rattle.gr_cluster.specs.Step.{lost_list}
 use Rattle.gr_cluster.specs.TraceText.{lost_text, unfinished_text}
 

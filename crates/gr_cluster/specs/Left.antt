@@ -1,5 +1,5 @@
 -- How much is left of an epoch: each canonical event inside an epoch lowers this number.
-use Rattle.std.specs.Prelude.{ℕ, ◌+◌, ◌*◌, Bool, not, ◌&&◌, ◌==◌, nat_lt, cond, List, Option, Some, None, sum_by, count_by, length, if◌then◌else◌}
+use Rattle.std.specs.Prelude.{ℕ, ◌+◌, ◌*◌, Bool, not, ◌&&◌, ◌==◌, nat_lt, cond, Option, Some, None, sum_by, count_by, length, if◌then◌else◌}
 use Rattle.gr_base.specs.Rising.{has}
 use Rattle.gr_batch.specs.declared.stage.Stage.{Stage}
 use Rattle.gr_batch.specs.Stages.{place_in, is_stage, is_end}

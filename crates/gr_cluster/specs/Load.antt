@@ -1,5 +1,5 @@
 -- The cluster at load.
-use Rattle.std.specs.Prelude.{ℕ, Bool, true, false, not, ◌&&◌, ◌==◌, nat_lt, List, [], ◌++◌, Option, Some, None, map, length, if◌then◌else◌}
+use Rattle.std.specs.Prelude.{ℕ, true, false, not, ◌&&◌, ◌==◌, nat_lt, List, [], Option, Some, None, map, length, if◌then◌else◌}
 use Rattle.std.specs.List.{filter}
 use Rattle.gr_base.specs.declared.records.Edge.{Edge}
 use Rattle.gr_base.specs.declared.records.NumberedEdge.{NumberedEdge}
@@ -10,7 +10,6 @@ use Rattle.gr_program.specs.declared.copy.VertexCopy.{VertexCopy}
 use Rattle.gr_program.specs.Program.{Program}
 use Rattle.gr_cut.specs.Cut.{home, edges_at_load}
 use Rattle.gr_copies.specs.Holders.{first_holders}
-use Rattle.gr_log.specs.declared.record.LogRecord.{LogRecord}
 use Rattle.gr_log.specs.Log.{Log, log_of}
 use Rattle.gr_batch.specs.declared.stage.Stage.{Stage}
 use Rattle.gr_batch.specs.declared.stage.Stage.TheVariants as stage

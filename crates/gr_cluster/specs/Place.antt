@@ -1,5 +1,5 @@
 -- What a place computes, sends and appends, from its own rows and inbox and from the logs.
-use Rattle.std.specs.Prelude.{ℕ, Bool, ◌&&◌, ◌==◌, List, [], ◌∷◌, ◌++◌, flat_map, count_by, if◌then◌else◌}
+use Rattle.std.specs.Prelude.{ℕ, ◌&&◌, ◌==◌, List, [], ◌∷◌, ◌++◌, flat_map, count_by, if◌then◌else◌}
 use Rattle.std.specs.List.{filter, list_any}
 use Rattle.gr_base.specs.declared.records.NumberedEdge.{NumberedEdge}
 use Rattle.gr_base.specs.Rising.{has}

@@ -1,5 +1,5 @@
 -- The step of a cluster by an event, with its outcome, for every cluster and event.
-use Rattle.std.specs.Prelude.{ℕ, ◌+◌, Bool, not, nat_lt, List, [], ◌∷◌, Option, Some, None, map, is_some, length, slice_get, if◌then◌else◌}
+use Rattle.std.specs.Prelude.{ℕ, ◌+◌, not, nat_lt, List, [], Option, Some, None, length, slice_get, if◌then◌else◌}
 use Rattle.std.specs.List.{filter}
 use Rattle.gr_program.specs.Program.{Program}
 use Rattle.gr_log.specs.declared.record.LogRecord.{LogRecord}

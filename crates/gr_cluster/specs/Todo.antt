@@ -1,6 +1,6 @@
 -- What a place does next.
-use Rattle.std.specs.Prelude.{ℕ, Bool, true, false, not, ◌&&◌, ◌==◌, nat_lt, List, Option, Some, None, if◌then◌else◌}
-use Rattle.std.specs.List.{filter, find}
+use Rattle.std.specs.Prelude.{ℕ, Bool, true, false, not, ◌&&◌, nat_lt, List, Option, Some, None, if◌then◌else◌}
+use Rattle.std.specs.List.{find}
 use Rattle.gr_base.specs.Rising.{has}
 use Rattle.gr_base.specs.Places.{without_place}
 use Rattle.gr_batch.specs.declared.stage.Stage.{Stage}

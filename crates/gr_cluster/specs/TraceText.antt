@@ -1,5 +1,5 @@
 -- The texts of a run: its trace, and how it ends.
-use Rattle.std.specs.Prelude.{ℕ, Bool, true, false, List, [], ◌∷◌, ◌++◌, Option, Some, None, map, flat_map, length, decimal, codes}
+use Rattle.std.specs.Prelude.{ℕ, Bool, true, false, List, [], ◌∷◌, ◌++◌, Option, Some, None, flat_map, length, decimal, codes}
 use Rattle.gr_program.specs.declared.copy.VertexCopy.{VertexCopy}
 use Rattle.gr_batch.specs.declared.stage.Stage.{Stage}
 use Rattle.gr_batch.specs.declared.stage.Stage.TheVariants as stage

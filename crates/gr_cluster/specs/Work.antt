@@ -1,5 +1,5 @@
 -- What a work of a place makes of the cluster.
-use Rattle.std.specs.Prelude.{ℕ, ◌+◌, Bool, true, false, not, ◌||◌, nat_lt, List, [], ◌∷◌, ◌++◌, Option, Some, None, is_none, if◌then◌else◌}
+use Rattle.std.specs.Prelude.{ℕ, ◌+◌, true, false, not, nat_lt, List, [], ◌∷◌, ◌++◌, Option, Some, None, if◌then◌else◌}
 use Rattle.std.specs.List.{filter}
 use Rattle.gr_base.specs.declared.records.NumberedEdge.{NumberedEdge}
 use Rattle.gr_base.specs.Places.{with_place}

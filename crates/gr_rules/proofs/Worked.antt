@@ -1,23 +1,20 @@
 -- Bodies of a round and of a rebuild, by computation.
 use Rattle.std.proofs.Common.{◌≡◌, ℕ, Bool, List, [], ◌∷◌, refl, true, false}
-use Rattle.std.specs.Prelude.{Option, Some, None, ◌%◌}
-use Rattle.gr_base.specs.declared.records.NumberedEdge.{NumberedEdge}
+use Rattle.std.specs.Prelude.{Option, Some, None}
 use Rattle.gr_program.specs.declared.copy.VertexCopy.{VertexCopy}
 use Rattle.gr_copies.specs.declared.view.RebuildView.{RebuildView}
 use Rattle.gr_cut.specs.Cut.{edges_at_load}
-use Rattle.gr_cut.proofs.Graphs.{star, triangle, edge}
+use Rattle.gr_cut.proofs.Graphs.{star, edge}
 use Rattle.gr_log.specs.declared.record.LogRecord.{LogRecord}
 use Rattle.gr_log.specs.declared.record.LogRecord.TheVariants as item
 use Rattle.gr_log.specs.Log.{Log, log_of}
 use Rattle.gr_log.specs.Directory.{directory_in}
-use Rattle.gr_batch.specs.declared.body.Body.{Body}
 use Rattle.gr_batch.specs.declared.body.Body.TheVariants as body
-use Rattle.gr_rules.specs.Rows.{record_of}
-use Rattle.gr_rules.specs.Round.{own_sum, gather_body, whole_sum, new_values, update_body, signal_body}
+use Rattle.gr_rules.specs.Round.{own_sum, gather_body, whole_sum}
 use Rattle.gr_rules.specs.Taken.{taken, taken_edges, ask_body, edges_with_ends}
 use Rattle.gr_rules.specs.Grants.{grant_body, new_holders, wanted}
 use Rattle.gr_rules.specs.Lost.{lost_of}
-use Rattle.gr_rules.proofs.Programs.{in_degree, rank, infinite}
+use Rattle.gr_rules.proofs.Programs.{in_degree, infinite}
 
 abbrev copy : ℕ → ℕ → ℕ → ℕ → List ℕ → Option ℕ → Bool → VertexCopy ℕ
 copy v i o m hs x due = record { vertex = v; indeg = i; outdeg = o; master = m; holders = hs; value = x; due = due }

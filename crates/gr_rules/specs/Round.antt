@@ -1,5 +1,5 @@
 -- A round at one place: sums, new values, the four bodies and the marks, from its stable rows, its edges and what the others sent.
-use Rattle.std.specs.Prelude.{ℕ, Bool, not, ◌&&◌, ◌||◌, ◌==◌, List, ◌∷◌, ◌++◌, Option, Some, None, map, flat_map, option_map, unwrap_or, if◌then◌else◌}
+use Rattle.std.specs.Prelude.{ℕ, Bool, not, ◌&&◌, ◌||◌, ◌==◌, List, Option, Some, None, map, option_map, unwrap_or, if◌then◌else◌}
 use Rattle.std.specs.List.{list_any, filter, filter_map, find, fold}
 use Rattle.gr_base.specs.declared.records.NumberedEdge.{NumberedEdge}
 use Rattle.gr_base.specs.Rising.{has}
@@ -9,7 +9,7 @@ use Rattle.gr_cut.specs.Cut.{is_high}
 use Rattle.gr_batch.specs.declared.body.Part.{Part}
 use Rattle.gr_batch.specs.declared.body.NewValue.{NewValue}
 use Rattle.gr_batch.specs.declared.body.Body.{Body}
-use Rattle.gr_batch.specs.Bodies.{parts_of, values_of}
+use Rattle.gr_batch.specs.Bodies.{parts_of}
 use Rattle.gr_rules.specs.Rows.{row, into}
 
 -- the part of a vertex in a Gather body

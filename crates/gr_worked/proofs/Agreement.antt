@@ -1,20 +1,17 @@
 -- The invariant as a test: each part of it that is an equation of plain data, or yes or no, in one cluster and one committed state.
-use Rattle.std.proofs.Common.{ℕ, zero, suc, ◌+◌, ◌*◌, Bool, true, false, not, ◌&&◌, ◌||◌, List, [], ◌∷◌, ◌++◌, map}
-use Rattle.std.specs.Prelude.{◌==◌, nat_lt, nat_le, Option, Some, None, is_some, is_none, cond, length, count_by, flat_map, if◌then◌else◌}
-use Rattle.std.specs.List.{list_all, list_any, filter}
-use Rattle.gr_base.specs.declared.records.Edge.{Edge}
+use Rattle.std.proofs.Common.{ℕ, zero, suc, ◌+◌, ◌*◌, Bool, true, false, not, ◌&&◌, ◌||◌, List, [], ◌∷◌, map}
+use Rattle.std.specs.Prelude.{◌==◌, nat_lt, nat_le, Option, Some, None, cond, length, count_by, if◌then◌else◌}
+use Rattle.std.specs.List.{list_all, list_any}
 use Rattle.gr_base.specs.Rising.{has, includes}
 use Rattle.gr_base.specs.Places.{below}
 use Rattle.gr_program.specs.Program.{Program}
 use Rattle.gr_program.specs.Rounds.{state_after, last_round}
-use Rattle.gr_log.specs.Log.{Log}
 use Rattle.gr_log.specs.Directory.{directory_in, edges_in, kept_edges}
 use Rattle.gr_batch.specs.declared.batch.Batch.{Batch}
 use Rattle.gr_batch.specs.declared.body.Body.{Body}
 use Rattle.gr_batch.specs.declared.body.Body.TheVariants as body
 use Rattle.gr_batch.specs.declared.stage.Stage.{Stage}
 use Rattle.gr_batch.specs.declared.stage.Stage.TheVariants as stage
-use Rattle.gr_batch.specs.declared.outcome.Outcome.{Outcome}
 use Rattle.gr_batch.specs.Stages.{place_in, is_end}
 use Rattle.gr_batch.specs.Bodies.{stage_of_body, is_of}
 use Rattle.gr_sched.specs.declared.event.Event.{Event}
@@ -35,7 +32,7 @@ use Rattle.gr_agree.specs.Rebuilt.{rebuilt, true_asks, true_grants, true_records
 use Rattle.gr_agree.specs.Places.{sets_with, may_have_dead}
 use Rattle.gr_agree.specs.Hosts.{progress, pending_rows, pending_arcs}
 use Rattle.gr_agree.specs.Network.{is_shown, standing}
-use Rattle.gr_worked.proofs.Numbers.{same, bit, items, one, rows_numbers, arcs_numbers, records_numbers, entry_numbers, body_numbers}
+use Rattle.gr_worked.proofs.Numbers.{same, bit, items, rows_numbers, arcs_numbers, records_numbers, entry_numbers, body_numbers}
 
 abbrev implies : Bool → Bool → Bool
 implies a b = not a || b

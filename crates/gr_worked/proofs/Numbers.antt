@@ -1,5 +1,5 @@
 -- Plain data as lists of numbers, so that computed cases compare them.
-use Rattle.std.proofs.Common.{ℕ, Bool, true, false, List, [], ◌∷◌, ◌++◌, map, ◌&&◌}
+use Rattle.std.proofs.Common.{ℕ, Bool, true, false, List, [], ◌∷◌, ◌++◌, ◌&&◌}
 use Rattle.std.specs.Prelude.{◌==◌, Option, Some, None, flat_map, length, cond}
 use Rattle.gr_base.specs.declared.records.NumberedEdge.{NumberedEdge}
 use Rattle.gr_program.specs.declared.copy.VertexCopy.{VertexCopy}

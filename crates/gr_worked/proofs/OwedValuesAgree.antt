@@ -1,6 +1,6 @@
 -- The invariant holds in every state of the run that owes values.
-use Rattle.std.proofs.Common.{◌≡◌, ℕ, List, [], ◌∷◌, refl}
-use Rattle.gr_cut.proofs.Graphs.{edge, triangle, star, path}
+use Rattle.std.proofs.Common.{◌≡◌, [], ◌∷◌, refl}
+use Rattle.gr_cut.proofs.Graphs.{path}
 use Rattle.gr_copies.specs.Holders.{first_holders}
 use Rattle.gr_log.specs.Directory.{directory_in, edges_in}
 use Rattle.gr_sched.specs.declared.event.Event.TheVariants as event
@@ -12,7 +12,7 @@ use Rattle.gr_rules.specs.Round.{own_sum, gather_body, whole_sum, new_values, up
 use Rattle.gr_rules.specs.Taken.{edges_with_ends, taken, taken_edges, ask_body}
 use Rattle.gr_rules.specs.Grants.{new_holders, grant_body, records_after}
 use Rattle.gr_rules.specs.Lost.{lost_of}
-use Rattle.gr_rules.proofs.Programs.{shortest, in_degree, rank}
+use Rattle.gr_rules.proofs.Programs.{rank}
 use Rattle.gr_cluster.specs.Load.{load, first_rows, first_arcs}
 use Rattle.gr_cluster.specs.Todo.{todo}
 use Rattle.gr_cluster.specs.Work.{worked}
