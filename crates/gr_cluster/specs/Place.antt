@@ -17,7 +17,7 @@ use Rattle.gr_batch.specs.Bodies.{values_of, signals_of, calls_of, asks_of, gran
 use Rattle.gr_view.specs.Modes.{is_rebuild}
 use Rattle.gr_rules.specs.Rows.{with_values, with_due}
 use Rattle.gr_rules.specs.Inbox.{bodies}
-use Rattle.gr_rules.specs.Round.{gather_body, new_values, update_body, signal_body, next_due, call_body}
+use Rattle.gr_rules.specs.Round.{gather_body, new_values, update_body, signal_body, call_body}
 use Rattle.gr_rules.specs.Taken.{taken_edges, ask_body}
 use Rattle.gr_rules.specs.Grants.{grant_body, records_after}
 use Rattle.gr_cluster.specs.Tables.{Host, Cluster, view_of, wanted_in}
@@ -39,9 +39,9 @@ module _ {V A : Type 0} (P : Program V A) (c : Cluster V A) (p : ℕ) (h : Host 
   abbrev pub known_values : List (NewValue V)
   known_values = own_values ++ sent_values
 
-  -- its vertices that are due next
+  -- its vertices that are due next: those that its own edges signal, and those of the Signal batches
   abbrev pub own_next : List ℕ
-  own_next = next_due known_values (flat_map signals_of (brought stage.Signal)) h.stable h.arcs p
+  own_next = signal_body known_values h.stable h.arcs p ++ flat_map signals_of (brought stage.Signal)
 
   -- who asked it for a vertex
   abbrev pub asked_for : ℕ → List ℕ

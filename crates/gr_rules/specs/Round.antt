@@ -82,10 +82,6 @@ vertices_where test rows = map (λ c. c.vertex) (filter test rows)
 unfoldable pub signal_body : {V : Type 0} → List (NewValue V) → List (VertexCopy V) → List NumberedEdge → ℕ → List ℕ
 signal_body news rows arcs q = vertices_where (λ c. (c.master == q) && is_signalled news arcs c.vertex) rows
 
--- the vertices that p masters and that are due next
-unfoldable pub next_due : {V : Type 0} → List (NewValue V) → List ℕ → List (VertexCopy V) → List NumberedEdge → ℕ → List ℕ
-next_due news signals rows arcs p = vertices_where (λ c. (c.master == p) && (is_signalled news arcs c.vertex || has signals c.vertex)) rows
-
--- Call: those of them that q holds
+-- Call: those of the vertices due next that p masters and q holds
 unfoldable pub call_body : {V : Type 0} → List ℕ → List (VertexCopy V) → ℕ → ℕ → List ℕ
 call_body next rows p q = vertices_where (λ c. (c.master == p) && (has next c.vertex && has c.holders q)) rows

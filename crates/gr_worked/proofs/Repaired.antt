@@ -8,7 +8,7 @@ use Rattle.gr_sched.specs.declared.event.Line.TheVariants as line
 use Rattle.gr_view.specs.Decisions.{at_barrier, at_recovery, at_repair, at_discard}
 use Rattle.gr_rules.specs.Rows.{blank_rows, with_values, with_due}
 use Rattle.gr_rules.specs.Inbox.{bodies}
-use Rattle.gr_rules.specs.Round.{own_sum, gather_body, whole_sum, new_values, update_body, signal_body, next_due, call_body}
+use Rattle.gr_rules.specs.Round.{own_sum, gather_body, whole_sum, new_values, update_body, signal_body, call_body}
 use Rattle.gr_rules.specs.Taken.{edges_with_ends, taken, taken_edges, ask_body}
 use Rattle.gr_rules.specs.Grants.{new_holders, grant_body, records_after}
 use Rattle.gr_rules.specs.Lost.{lost_of}
@@ -29,25 +29,25 @@ entry v i o m hs = record { vertex = v; indeg = i; outdeg = o; master = m; holde
 
 -- place 2 is retired, and vertex 2 has one holder left
 after_the_migration : directory_of (position_after shortest 36 (begin shortest (job 3 0 1) triangle (0 ∷ 1 ∷ 2 ∷ []) (line.Step (event.Crash 2 0) ∷ line.Settle ∷ []))).cluster ≡ entry 0 0 2 0 (0 ∷ 1 ∷ []) ∷ entry 1 1 1 1 (0 ∷ 1 ∷ []) ∷ entry 2 2 0 0 (0 ∷ []) ∷ []
-unfolding first_holders first_rows first_arcs load own_sum gather_body whole_sum new_values update_body with_values signal_body next_due call_body with_due bodies todo worked delivered dropped crashed barred recovered repaired discarded step at_barrier at_recovery at_repair at_discard next_canonical next_event next_position position_after directory_in edges_in edges_with_ends taken taken_edges ask_body new_holders grant_body records_after blank_rows lost_of directory_of
+unfolding first_holders first_rows first_arcs load own_sum gather_body whole_sum new_values update_body with_values signal_body call_body with_due bodies todo worked delivered dropped crashed barred recovered repaired discarded step at_barrier at_recovery at_repair at_discard next_canonical next_event next_position position_after directory_in edges_in edges_with_ends taken taken_edges ask_body new_holders grant_body records_after blank_rows lost_of directory_of
 after_the_migration = refl
 
 -- so the state is not restored
 migration_does_not_restore : is_restored (position_after shortest 36 (begin shortest (job 3 0 1) triangle (0 ∷ 1 ∷ 2 ∷ []) (line.Step (event.Crash 2 0) ∷ line.Settle ∷ []))).cluster ≡ false
-unfolding first_holders first_rows first_arcs load own_sum gather_body whole_sum new_values update_body with_values signal_body next_due call_body with_due bodies todo worked delivered dropped crashed barred recovered repaired discarded step at_barrier at_recovery at_repair at_discard next_canonical next_event next_position position_after directory_in edges_in edges_with_ends taken taken_edges ask_body new_holders grant_body records_after blank_rows lost_of directory_of is_restored
+unfolding first_holders first_rows first_arcs load own_sum gather_body whole_sum new_values update_body with_values signal_body call_body with_due bodies todo worked delivered dropped crashed barred recovered repaired discarded step at_barrier at_recovery at_repair at_discard next_canonical next_event next_position position_after directory_in edges_in edges_with_ends taken taken_edges ask_body new_holders grant_body records_after blank_rows lost_of directory_of is_restored
 migration_does_not_restore = refl
 
 -- a repair gives it a second one
 after_the_repair : directory_of (position_after shortest 60 (begin shortest (job 3 0 1) triangle (0 ∷ 1 ∷ 2 ∷ []) (line.Step (event.Crash 2 0) ∷ line.Settle ∷ line.Step event.Repair ∷ line.Settle ∷ []))).cluster ≡ entry 0 0 2 0 (0 ∷ 1 ∷ []) ∷ entry 1 1 1 1 (0 ∷ 1 ∷ []) ∷ entry 2 2 0 0 (0 ∷ 1 ∷ []) ∷ []
-unfolding first_holders first_rows first_arcs load own_sum gather_body whole_sum new_values update_body with_values signal_body next_due call_body with_due bodies todo worked delivered dropped crashed barred recovered repaired discarded step at_barrier at_recovery at_repair at_discard next_canonical next_event next_position position_after directory_in edges_in edges_with_ends taken taken_edges ask_body new_holders grant_body records_after blank_rows lost_of directory_of
+unfolding first_holders first_rows first_arcs load own_sum gather_body whole_sum new_values update_body with_values signal_body call_body with_due bodies todo worked delivered dropped crashed barred recovered repaired discarded step at_barrier at_recovery at_repair at_discard next_canonical next_event next_position position_after directory_in edges_in edges_with_ends taken taken_edges ask_body new_holders grant_body records_after blank_rows lost_of directory_of
 after_the_repair = refl
 
 -- so a second crash is borne
 borne_after_a_repair : are_borne 1 (losses_after shortest 61 (begin shortest (job 3 0 1) triangle (0 ∷ 1 ∷ 2 ∷ []) (line.Step (event.Crash 2 0) ∷ line.Settle ∷ line.Step event.Repair ∷ line.Settle ∷ line.Step (event.Crash 0 0) ∷ [])) (record { crashes = 0; live = 3 })) ≡ true
-unfolding first_holders first_rows first_arcs load own_sum gather_body whole_sum new_values update_body with_values signal_body next_due call_body with_due bodies todo worked delivered dropped crashed barred recovered repaired discarded step at_barrier at_recovery at_repair at_discard next_canonical next_event next_position position_after directory_in edges_in edges_with_ends taken taken_edges ask_body new_holders grant_body records_after blank_rows lost_of directory_of is_restored losses_after
+unfolding first_holders first_rows first_arcs load own_sum gather_body whole_sum new_values update_body with_values signal_body call_body with_due bodies todo worked delivered dropped crashed barred recovered repaired discarded step at_barrier at_recovery at_repair at_discard next_canonical next_event next_position position_after directory_in edges_in edges_with_ends taken taken_edges ask_body new_holders grant_body records_after blank_rows lost_of directory_of is_restored losses_after
 borne_after_a_repair = refl
 
 -- and without it is not
 not_borne_without : are_borne 1 (losses_after shortest 37 (begin shortest (job 3 0 1) triangle (0 ∷ 1 ∷ 2 ∷ []) (line.Step (event.Crash 2 0) ∷ line.Settle ∷ line.Step (event.Crash 0 0) ∷ [])) (record { crashes = 0; live = 3 })) ≡ false
-unfolding first_holders first_rows first_arcs load own_sum gather_body whole_sum new_values update_body with_values signal_body next_due call_body with_due bodies todo worked delivered dropped crashed barred recovered repaired discarded step at_barrier at_recovery at_repair at_discard next_canonical next_event next_position position_after directory_in edges_in edges_with_ends taken taken_edges ask_body new_holders grant_body records_after blank_rows lost_of directory_of is_restored losses_after
+unfolding first_holders first_rows first_arcs load own_sum gather_body whole_sum new_values update_body with_values signal_body call_body with_due bodies todo worked delivered dropped crashed barred recovered repaired discarded step at_barrier at_recovery at_repair at_discard next_canonical next_event next_position position_after directory_in edges_in edges_with_ends taken taken_edges ask_body new_holders grant_body records_after blank_rows lost_of directory_of is_restored losses_after
 not_borne_without = refl

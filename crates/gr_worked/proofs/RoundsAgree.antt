@@ -8,7 +8,7 @@ use Rattle.gr_sched.specs.declared.event.Line.TheVariants as line
 use Rattle.gr_view.specs.Decisions.{at_barrier, at_recovery, at_repair, at_discard}
 use Rattle.gr_rules.specs.Rows.{blank_rows, with_values, with_due}
 use Rattle.gr_rules.specs.Inbox.{bodies}
-use Rattle.gr_rules.specs.Round.{own_sum, gather_body, whole_sum, new_values, update_body, signal_body, next_due, call_body}
+use Rattle.gr_rules.specs.Round.{own_sum, gather_body, whole_sum, new_values, update_body, signal_body, call_body}
 use Rattle.gr_rules.specs.Taken.{edges_with_ends, taken, taken_edges, ask_body}
 use Rattle.gr_rules.specs.Grants.{new_holders, grant_body, records_after}
 use Rattle.gr_rules.specs.Lost.{lost_of}
@@ -30,20 +30,20 @@ use Rattle.gr_worked.proofs.Agreement.{holding}
 
 -- one place has nobody to send to
 one_place_holds : holding in_degree 8 (begin in_degree (job 1 0 1) (edge 0 1 ∷ []) (0 ∷ 1 ∷ []) (line.Finish ∷ [])) (first_truth in_degree (job 1 0 1) (edge 0 1 ∷ []) (0 ∷ 1 ∷ [])) ≡ 8
-unfolding first_holders first_rows first_arcs load own_sum gather_body whole_sum new_values update_body with_values signal_body next_due call_body with_due bodies todo worked delivered dropped crashed barred recovered repaired discarded step at_barrier at_recovery at_repair at_discard next_canonical next_event next_position directory_in edges_in edges_with_ends taken taken_edges ask_body new_holders grant_body records_after blank_rows lost_of holding state_after after_round first_state last_from rows_at arcs_at entries_at staged part_sum true_parts true_values true_signals true_calls true_taken is_asker true_asks true_granted true_grants
+unfolding first_holders first_rows first_arcs load own_sum gather_body whole_sum new_values update_body with_values signal_body call_body with_due bodies todo worked delivered dropped crashed barred recovered repaired discarded step at_barrier at_recovery at_repair at_discard next_canonical next_event next_position directory_in edges_in edges_with_ends taken taken_edges ask_body new_holders grant_body records_after blank_rows lost_of holding state_after after_round first_state last_from rows_at arcs_at entries_at staged part_sum true_parts true_values true_signals true_calls true_taken is_asker true_asks true_granted true_grants
 one_place_holds = refl
 
 -- a whole round of two places
 two_places_holds : holding in_degree 30 (begin in_degree (job 2 0 1) (edge 0 1 ∷ []) (0 ∷ 1 ∷ []) (line.Finish ∷ [])) (first_truth in_degree (job 2 0 1) (edge 0 1 ∷ []) (0 ∷ 1 ∷ [])) ≡ 30
-unfolding first_holders first_rows first_arcs load own_sum gather_body whole_sum new_values update_body with_values signal_body next_due call_body with_due bodies todo worked delivered dropped crashed barred recovered repaired discarded step at_barrier at_recovery at_repair at_discard next_canonical next_event next_position directory_in edges_in edges_with_ends taken taken_edges ask_body new_holders grant_body records_after blank_rows lost_of holding state_after after_round first_state last_from rows_at arcs_at entries_at staged part_sum true_parts true_values true_signals true_calls true_taken is_asker true_asks true_granted true_grants
+unfolding first_holders first_rows first_arcs load own_sum gather_body whole_sum new_values update_body with_values signal_body call_body with_due bodies todo worked delivered dropped crashed barred recovered repaired discarded step at_barrier at_recovery at_repair at_discard next_canonical next_event next_position directory_in edges_in edges_with_ends taken taken_edges ask_body new_holders grant_body records_after blank_rows lost_of holding state_after after_round first_state last_from rows_at arcs_at entries_at staged part_sum true_parts true_values true_signals true_calls true_taken is_asker true_asks true_granted true_grants
 two_places_holds = refl
 
 -- batches are delivered in another order
 other_order_holds : holding shortest 63 (begin shortest (job 2 0 1) triangle (0 ∷ 1 ∷ 2 ∷ []) (line.Step (event.Work 0) ∷ line.Step (event.Work 0) ∷ line.Step (event.Work 1) ∷ line.Step (event.Work 1) ∷ line.Step (event.Deliver 1) ∷ line.Step (event.Deliver 0) ∷ line.Finish ∷ [])) (first_truth shortest (job 2 0 1) triangle (0 ∷ 1 ∷ 2 ∷ [])) ≡ 63
-unfolding first_holders first_rows first_arcs load own_sum gather_body whole_sum new_values update_body with_values signal_body next_due call_body with_due bodies todo worked delivered dropped crashed barred recovered repaired discarded step at_barrier at_recovery at_repair at_discard next_canonical next_event next_position directory_in edges_in edges_with_ends taken taken_edges ask_body new_holders grant_body records_after blank_rows lost_of holding state_after after_round first_state last_from rows_at arcs_at entries_at staged part_sum true_parts true_values true_signals true_calls true_taken is_asker true_asks true_granted true_grants
+unfolding first_holders first_rows first_arcs load own_sum gather_body whole_sum new_values update_body with_values signal_body call_body with_due bodies todo worked delivered dropped crashed barred recovered repaired discarded step at_barrier at_recovery at_repair at_discard next_canonical next_event next_position directory_in edges_in edges_with_ends taken taken_edges ask_body new_holders grant_body records_after blank_rows lost_of holding state_after after_round first_state last_from rows_at arcs_at entries_at staged part_sum true_parts true_values true_signals true_calls true_taken is_asker true_asks true_granted true_grants
 other_order_holds = refl
 
 -- parts of the sum of a high vertex
 high_vertex_holds : holding in_degree 68 (begin in_degree (record (job 3 0 1) { theta = 3 }) star (0 ∷ 1 ∷ 2 ∷ 3 ∷ 4 ∷ 5 ∷ 6 ∷ []) (line.Finish ∷ [])) (first_truth in_degree (record (job 3 0 1) { theta = 3 }) star (0 ∷ 1 ∷ 2 ∷ 3 ∷ 4 ∷ 5 ∷ 6 ∷ [])) ≡ 68
-unfolding first_holders first_rows first_arcs load own_sum gather_body whole_sum new_values update_body with_values signal_body next_due call_body with_due bodies todo worked delivered dropped crashed barred recovered repaired discarded step at_barrier at_recovery at_repair at_discard next_canonical next_event next_position directory_in edges_in edges_with_ends taken taken_edges ask_body new_holders grant_body records_after blank_rows lost_of holding state_after after_round first_state last_from rows_at arcs_at entries_at staged part_sum true_parts true_values true_signals true_calls true_taken is_asker true_asks true_granted true_grants
+unfolding first_holders first_rows first_arcs load own_sum gather_body whole_sum new_values update_body with_values signal_body call_body with_due bodies todo worked delivered dropped crashed barred recovered repaired discarded step at_barrier at_recovery at_repair at_discard next_canonical next_event next_position directory_in edges_in edges_with_ends taken taken_edges ask_body new_holders grant_body records_after blank_rows lost_of holding state_after after_round first_state last_from rows_at arcs_at entries_at staged part_sum true_parts true_values true_signals true_calls true_taken is_asker true_asks true_granted true_grants
 high_vertex_holds = refl
