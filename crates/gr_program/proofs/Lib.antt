@@ -1,3 +1,5 @@
 pub mod LastRound
 pub mod Permuted
 pub mod Totals
+pub mod Worked
+pub mod Recompute

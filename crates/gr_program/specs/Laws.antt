@@ -31,5 +31,5 @@ LastRoundIsLeast V A = (p : Program V A) (es : List Edge) (vs : List ℕ) (limit
 -- every vertex was active in the first round, and a change that woke nobody left each contribution as it was.
 abbrev pub InactiveMayBeRecomputed : (V A : Type 0) → Type 0
 InactiveMayBeRecomputed V A =
-    (p : Program V A) → ProgramLaws p → IsTrue p.forgetful → (es : List Edge) → All (λ e. e.src < 2 ^ 32) es → All (λ e. e.dst < 2 ^ 32) es → (r v : ℕ) → v < 2 ^ 32 → (state_after p es r).active v ≡ false
+    (p : Program V A) → ProgramLaws p → IsTrue p.forgetful → (es : List Edge) → All (λ e. e.src < 2 ^ 32) es → (r v : ℕ) → v < 2 ^ 32 → (state_after p es r).active v ≡ false
     → (x : V) → IsTrue (p.is_value x) → (state_after p es r).value v ≡ p.apply v x (gathered p es (state_after p es r).value v)

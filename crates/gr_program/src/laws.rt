@@ -16,3 +16,9 @@ pub fn join_of_parts<V, A>()
 pub fn last_round_is_least<V, A>()
     ensures { LastRoundIsLeast V A }
 {}
+
+/// Under a forgetful program the value of a vertex that is not active is what `apply` gives it once more, whatever
+/// old value it is given: so a value that nobody reads need not be kept.
+pub fn inactive_may_be_recomputed<V, A>()
+    ensures { InactiveMayBeRecomputed V A }
+{}

@@ -1,0 +1,6 @@
+pub mod Fields
+pub mod Reading
+pub mod Recent
+pub mod Summary
+pub mod Text
+pub mod Vertices

@@ -1,0 +1,5 @@
+pub mod Documents
+pub mod Numbers
+pub mod Arrays
+pub mod UnknownKeys
+mod Worked

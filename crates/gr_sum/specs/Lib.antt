@@ -1,0 +1,9 @@
+pub mod Amount
+pub mod InDegree
+pub mod Infinity
+pub mod KCore
+pub mod Laws
+pub mod Rank
+pub mod Reach
+pub mod Seeds
+pub mod Sums

@@ -1,0 +1,9 @@
+pub mod Counts
+pub mod Indexed
+pub mod Marks
+pub mod Placing
+pub mod Positions
+pub mod Runs
+pub mod Steps
+pub mod Sums
+pub mod Tests

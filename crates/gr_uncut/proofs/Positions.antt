@@ -1,0 +1,116 @@
+-- Where the ends of edges stand among the vertices.
+use Rattle.gr_uncut.specs.Index.{AreSmall}
+use Rattle.std.proofs.Common.{◌≡◌, ◌∙◌, ◌<◌, ◌+◌, ◌||◌, ℕ, Bool, true, false, eqb, ltb, List, [], ◌∷◌, ◌++◌, Some, None, length, take, get_or, set, map, refl, ap, sym, arith, inl, inr, ◌≤◌}
+use Rattle.std.specs.Prelude.{slice_index}
+use Rattle.std.specs.List.{All, filter, find, list_any, prefix_len}
+use Rattle.std.proofs.lemmas.Bool.{cases_order, cases_Bool, cond-true, cond-false, eq-eqb, ne_eqb, cases_eq, eqb-true}
+use Rattle.std.proofs.lemmas.List.{take_more, map-append, get_or_default, get_or-set_same, get_or-set_other, length-set}
+use Rattle.std.proofs.lemmas.List.Elements.{All-cons, All-nil, All-head, All-tail}
+use Rattle.std.proofs.lemmas.List.Folds.{Any-from_list_any}
+use Rattle.gr_base.specs.Rising.{RisesBy, has}
+use Rattle.gr_base.proofs.Rising.{stands-at}
+use Rattle.gr_uncut.specs.Rows.{items_of}
+
+pub list_any-map : {X Y : Type 0} (f : X → Y) (p : Y → Bool) (xs : List X) → list_any p (map f xs) ≡ list_any (λ x. p (f x)) xs
+list_any-map f p [] = refl
+list_any-map f p (x ∷ xs) = ap (λ b. p (f x) || b) (list_any-map f p xs)
+
+find-none : {X : Type 0} (p : X → Bool) (xs : List X) → find p xs ≡ None → list_any p xs ≡ false
+find-none p [] e = refl
+find-none p (x ∷ xs) e = elim (cases_Bool (p x)) [
+  | inl on ↦ let some = cond-true (p x) (Some x) (find p xs) on in cc
+  | inr off ↦ let rest = find-none p xs (sym (cond-false (p x) (Some x) (find p xs) off) ∙ e) in rw off rest
+]
+
+-- a number that stands in a rising list stands where the lower ones end
+pub found-at : {X : Type 0} (key : X → ℕ) (xs : List X) (v i : ℕ) (d : X) → RisesBy key xs → prefix_len (λ x. ltb (key x) v) xs ≡ i → has (map key xs) v ≡ true → (i < length xs) × (key (get_or xs i d) ≡ v)
+found-at key xs v i d rise at stands = stands-at key v xs i d rise at (λ none. let off = find-none (λ x. eqb (key x) v) xs none in let on = sym (list_any-map key (λ x. eqb x v) xs) ∙ stands in cc)
+
+-- positions of a rising list are told apart by what stands there
+pub same-position : (vs : List ℕ) (j k : ℕ) → RisesBy (λ (n : ℕ). n) vs → j < length vs → k < length vs → eqb (slice_index vs j) (slice_index vs k) ≡ eqb j k
+same-position vs j k rise lj lk = elim (cases_order j k) [
+  | inl same ↦ eq-eqb _ _ (ap (slice_index vs) same) ∙ sym (eq-eqb j k same)
+  | inr o ↦ elim o [
+    | inl lt ↦ let q = rise j k 0 lt lk in ne_eqb _ _ (λ e. omega arith) ∙ sym (ne_eqb j k (λ e. omega arith))
+    | inr gt ↦ let q = rise k j 0 gt lj in ne_eqb _ _ (λ e. omega arith) ∙ sym (ne_eqb j k (λ e. omega arith))
+  ]
+]
+
+-- a number of a list stands at a position
+pub place-of : (ks : List ℕ) (v : ℕ) → has ks v ≡ true → (k : ℕ) × (k < length ks) × (slice_index ks k ≡ v)
+place-of ks v on =
+    let some = Any-from_list_any (λ x. eqb x v) ks on in
+    (some.0, some.2, get_or_default ks some.0 0 some.1 some.2 ∙ some.3 ∙ eqb-true some.1 v some.4)
+
+-- the positions of small ids, one vertex more
+pub small-more : (vs small : List ℕ) (k : ℕ) → RisesBy (λ (n : ℕ). n) vs → k < length vs → slice_index vs k < length small
+    → ((j : ℕ) → j < k → slice_index vs j < length small → slice_index small (slice_index vs j) ≡ j)
+    → (j : ℕ) → j < k + 1 → slice_index vs j < length (set small (slice_index vs k) k) → slice_index (set small (slice_index vs k) k) (slice_index vs j) ≡ j
+small-more vs small k rise lt low was j before within = elim (cases_eq j k) [
+  | inl same ↦ ap (λ n. slice_index (set small (slice_index vs k) k) (slice_index vs n)) same ∙ get_or-set_same small (slice_index vs k) k 0 low ∙ sym same
+  | inr apart ↦
+      let q = rise j k 0 (omega arith) lt in
+      get_or-set_other small (slice_index vs k) (slice_index vs j) k 0 (λ e. omega arith)
+      ∙ was j (omega arith) (rw (← length-set small (slice_index vs k) k) within)
+]
+
+-- the ids from one that is not small on are not small
+pub small-rest : (vs small : List ℕ) (k : ℕ) → RisesBy (λ (n : ℕ). n) vs → length small ≤ slice_index vs k
+    → ((j : ℕ) → j < k → slice_index vs j < length small → slice_index small (slice_index vs j) ≡ j) → AreSmall vs small
+small-rest vs small k rise past was = λ j lt low. elim (cases_order j k) [
+  | inl same ↦ let e = ap (slice_index vs) same in absurd (omega arith)
+  | inr o ↦ elim o [
+    | inl before ↦ was j before low
+    | inr after ↦ let q = rise k j 0 after lt in absurd (omega arith)
+  ]
+]
+
+-- the position of a small id that stands in the list
+pub small-at : (vs small : List ℕ) (v : ℕ) → AreSmall vs small → has vs v ≡ true → v < length small → (slice_index small v < length vs) × (slice_index vs (slice_index small v) ≡ v)
+small-at vs small v are stands low =
+    let place = place-of vs v stands in
+    let at : slice_index small v ≡ place.0 = ap (slice_index small) (sym place.2) ∙ are place.0 place.1 (rw place.2 low) in
+    (rw at place.1, ap (slice_index vs) at ∙ place.2)
+
+-- one element more, on both sides
+pub maps-more : {X Y Z : Type 0} (f : X → Z) (g : Y → Z) (xs : List X) (ys : List Y) (i : ℕ) (x : X) (d : Y) → i < length ys → map f xs ≡ map g (take i ys) → f x ≡ g (get_or ys i d) → map f (xs ++ x ∷ []) ≡ map g (take (i + 1) ys)
+maps-more f g xs ys i x d lt was here =
+    map-append f xs (x ∷ [])
+    ∙ ap (λ l. l ++ f x ∷ []) was
+    ∙ ap (λ z. map g (take i ys) ++ z ∷ []) here
+    ∙ sym (map-append g (take i ys) (get_or ys i d ∷ []))
+    ∙ sym (ap (map g) (take_more ys i d lt))
+
+-- the items of a key are those of what they tell
+pub items_of-told : {X Y Z : Type 0} (name : X → Z) (at : ℕ → ℕ) (told : Y → Z) (key : Y → ℕ) (keys : List ℕ) (xs : List X) (ys : List Y) (k : ℕ)
+    → map at keys ≡ map key ys → map name xs ≡ map told ys → All (λ j. eqb (at j) (at k) ≡ eqb j k) keys
+    → map name (items_of keys xs k) ≡ map told (filter (λ y. eqb (key y) (at k)) ys)
+items_of-told name at told key [] xs [] k same all apart = refl
+items_of-told name at told key [] xs (y ∷ ys) k same all apart = cc
+items_of-told name at told key (j ∷ keys) [] [] k same all apart = cc
+items_of-told name at told key (j ∷ keys) [] (y ∷ ys) k same all apart = cc
+items_of-told name at told key (j ∷ keys) (x ∷ xs) [] k same all apart = cc
+items_of-told name at told key (j ∷ keys) (x ∷ xs) (y ∷ ys) k same all apart =
+    let rest = items_of-told name at told key keys xs ys k (tail same) (tail all) (All-tail (λ j. eqb (at j) (at k) ≡ eqb j k) j keys apart) in
+    let test : eqb (key y) (at k) ≡ eqb j k = ap (λ n. eqb n (at k)) (sym (head same)) ∙ All-head (λ j. eqb (at j) (at k) ≡ eqb j k) j keys apart in
+    elim (cases_Bool (eqb j k)) [
+      | inl on ↦ let on' = test ∙ on in rw (on, on') (ap (λ z. z ∷ map name (items_of keys xs k)) (head all) ∙ ap (λ l. told y ∷ l) rest)
+      | inr off ↦ let off' = test ∙ off in rw (off, off') rest
+    ]
+  where
+    head : {B : Type 0} {b c : B} {bs cs : List B} → b ∷ bs ≡ c ∷ cs → b ≡ c
+    head q = cc
+
+    tail : {B : Type 0} {b c : B} {bs cs : List B} → b ∷ bs ≡ c ∷ cs → bs ≡ cs
+    tail q = cc
+
+-- what holds of all items holds of the items of a key
+pub items_of-all : {X : Type 0} (P : X → Type 0) (keys : List ℕ) (xs : List X) (k : ℕ) → All P xs → All P (items_of keys xs k)
+items_of-all P [] xs k all = All-nil P
+items_of-all P (j ∷ keys) [] k all = All-nil P
+items_of-all P (j ∷ keys) (x ∷ xs) k all =
+    let rest = items_of-all P keys xs k (All-tail P x xs all) in
+    elim (cases_Bool (eqb j k)) [
+      | inl on ↦ rw on (All-cons P x (items_of keys xs k) (All-head P x xs all) rest)
+      | inr off ↦ rw off rest
+    ]
