@@ -92,8 +92,8 @@ module _ {V A : Type 0} where
   discarded c =
       let ps = down_among c (parties c.coordinator) in
       let decision = at_discard c.coordinator ps c.coordinator.mode in
-      let back = if is_recovery c.coordinator.mode then going_back c.coordinator ps else [] in
-      discarded_or_idle c decision.1 (with_coordinator decision.0 (without_hosts back c))
+      let d = if is_recovery c.coordinator.mode then without_hosts (going_back c.coordinator ps) c else c in
+      discarded_or_idle c decision.1 (with_coordinator decision.0 d)
 
 module _ {V A : Type 0} (P : Program V A) where
   abbrev pub taken_step : Cluster V A → Event → Cluster V A × Outcome V A

@@ -11,7 +11,7 @@ use Rattle.gr_copies.specs.Holders.{extras}
 use Rattle.gr_log.specs.declared.record.LogRecord.{LogRecord}
 use Rattle.gr_log.specs.declared.record.LogRecord.TheVariants as item
 use Rattle.gr_log.specs.Directory.{Entry}
-use Rattle.gr_rules.specs.Rows.{entry, record_of}
+use Rattle.gr_rules.specs.Rows.{is_hidden, entry, record_of}
 use Rattle.gr_rules.specs.Taken.{is_granter, master_after}
 
 -- how many holders a rebuild asks for: none in a recovery, one more than the losses in a repair
@@ -35,17 +35,13 @@ module _ (w : RebuildView) (want : ℕ) where
   is_granted e asked = list_any (has w.dead) e.holders || (nat_lt 0 (length asked) || nat_lt 0 (length (extra_holders e)))
 
   module _ {V : Type 0} where
-    -- a vertex without readers, whose value a forgetful program keeps at its master alone
-    abbrev pub is_hidden_copy : VertexCopy V → Bool
-    is_hidden_copy c = w.forgetful && (c.outdeg == 0)
-
-    -- its value is granted to a master that did not die, and else to nobody
+    -- the value of a hidden vertex is granted to a master that did not die, and else to nobody
     abbrev pub granted_value : VertexCopy V → ℕ → Option V
-    granted_value c q = if is_hidden_copy c && not ((c.master == q) && not (has w.dead c.master)) then None else c.value
+    granted_value c q = if is_hidden w.forgetful c && not ((c.master == q) && not (has w.dead c.master)) then None else c.value
 
     -- where its master died it is due, so that it is applied once more
     abbrev pub granted_due : VertexCopy V → Bool
-    granted_due c = c.due || (is_hidden_copy c && has w.dead c.master)
+    granted_due c = c.due || (is_hidden w.forgetful c && has w.dead c.master)
 
     -- the new copy for q
     abbrev pub granted_copy : VertexCopy V → List ℕ → ℕ → VertexCopy V

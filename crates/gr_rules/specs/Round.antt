@@ -1,5 +1,5 @@
 -- A round at one place: sums, new values, the four bodies and the marks, from its stable rows, its edges and what the others sent.
-use Rattle.std.specs.Prelude.{ℕ, Bool, not, ◌&&◌, ◌||◌, ◌==◌, List, Option, Some, None, map, option_map, unwrap_or, if◌then◌else◌}
+use Rattle.std.specs.Prelude.{ℕ, Bool, not, ◌&&◌, ◌==◌, List, Option, Some, None, map, option_map, unwrap_or, if◌then◌else◌}
 use Rattle.std.specs.List.{list_any, filter, filter_map, find, fold}
 use Rattle.gr_base.specs.declared.records.NumberedEdge.{NumberedEdge}
 use Rattle.gr_base.specs.Rising.{has}
@@ -10,7 +10,7 @@ use Rattle.gr_batch.specs.declared.body.Part.{Part}
 use Rattle.gr_batch.specs.declared.body.NewValue.{NewValue}
 use Rattle.gr_batch.specs.declared.body.Body.{Body}
 use Rattle.gr_batch.specs.Bodies.{parts_of}
-use Rattle.gr_rules.specs.Rows.{row, into}
+use Rattle.gr_rules.specs.Rows.{row, into, is_hidden}
 
 -- the part of a vertex in a Gather body
 abbrev pub part_for : {V A : Type 0} → ℕ → Body V A → Option A
@@ -57,14 +57,10 @@ module _ {V A : Type 0} (P : Program V A) where
   new_values p rows arcs gathers =
       filter_map (λ c. if c.due && (c.master == p) then Some (new_value rows arcs gathers c) else None) rows
 
-  -- a vertex without readers, whose value a forgetful program keeps at its master alone
-  abbrev pub is_hidden : VertexCopy V → Bool
-  is_hidden c = P.forgetful && (c.outdeg == 0)
-
   -- Update: those of them that q holds, but for the hidden ones
   unfoldable pub update_body : ℕ → ℕ → List (VertexCopy V) → List NumberedEdge → List (Body V A) → List (NewValue V)
   update_body p q rows arcs gathers =
-      filter_map (λ c. if (c.due && (c.master == p)) && (has c.holders q && not (is_hidden c)) then Some (new_value rows arcs gathers c) else None) rows
+      filter_map (λ c. if (c.due && (c.master == p)) && (has c.holders q && not (is_hidden P.forgetful c)) then Some (new_value rows arcs gathers c) else None) rows
 
 -- whether a vertex woke, by the new values that the place knows
 abbrev pub woke_by : {V : Type 0} → List (NewValue V) → ℕ → Bool

@@ -1,5 +1,5 @@
 -- The copies and edges of one layer of a place.
-use Rattle.std.specs.Prelude.{ℕ, Bool, false, ◌==◌, List, Option, Some, None, map}
+use Rattle.std.specs.Prelude.{ℕ, Bool, false, ◌&&◌, ◌==◌, List, Option, Some, None, map}
 use Rattle.std.specs.List.{find}
 use Rattle.gr_base.specs.declared.records.NumberedEdge.{NumberedEdge}
 use Rattle.gr_base.specs.Rising.{has}
@@ -15,6 +15,10 @@ row rows v = find (λ c. c.vertex == v) rows
 -- whether an edge ends at v
 abbrev pub into : ℕ → NumberedEdge → Bool
 into v a = a.edge.dst == v
+
+-- a vertex without readers under a forgetful program: its value is kept at its master alone
+abbrev pub is_hidden : {V : Type 0} → Bool → VertexCopy V → Bool
+is_hidden forgetful c = forgetful && (c.outdeg == 0)
 
 -- what a copy says besides its value and its mark
 abbrev pub entry : {V : Type 0} → VertexCopy V → Entry
