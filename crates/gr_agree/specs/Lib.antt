@@ -1,0 +1,14 @@
+pub mod Agree
+pub mod Bounds
+pub mod FirstTruth
+pub mod Headline
+pub mod Hosts
+pub mod Laws
+pub mod Logs
+pub mod Network
+pub mod Places
+pub mod Rebuilt
+pub mod Reports
+pub mod TrueBody
+pub mod TrueRound
+pub mod Truth

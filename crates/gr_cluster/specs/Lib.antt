@@ -1,0 +1,15 @@
+pub mod Budget
+pub mod Canonical
+pub mod Ending
+pub mod GraphIn
+pub mod Left
+pub mod Load
+pub mod Network
+pub mod Place
+pub mod Runs
+pub mod Stages
+pub mod Step
+pub mod Tables
+pub mod Todo
+pub mod TraceText
+pub mod Work

@@ -1,0 +1,33 @@
+-- The stages of a mode, and what each needs.
+use Rattle.std.specs.Prelude.{Bool, List, [], ◌∷◌, Option, Some, None, if◌then◌else◌}
+use Rattle.std.specs.List.{list_any}
+use Rattle.gr_batch.specs.declared.stage.Stage.{Stage}
+use Rattle.gr_batch.specs.declared.stage.Stage.TheVariants as stage
+use Rattle.gr_batch.specs.Stages.{is_stage}
+use Rattle.gr_view.specs.declared.coordinator.Mode.{Mode}
+use Rattle.gr_view.specs.declared.coordinator.Mode.TheVariants as mode
+use Rattle.gr_view.specs.Modes.{is_rebuild}
+
+-- the stages of a round, and of a rebuild, in order
+abbrev pub stages_of : Mode → List Stage
+stages_of mode.Running = stage.Gather ∷ stage.Update ∷ stage.Signal ∷ stage.Call ∷ stage.End ∷ []
+stages_of mode.Recovering = stage.Ask ∷ stage.Grant ∷ stage.End ∷ []
+stages_of mode.Repairing = stage.Ask ∷ stage.Grant ∷ stage.End ∷ []
+stages_of _ = []
+
+abbrev pub has_stage : List Stage → Stage → Bool
+has_stage ss s = list_any (is_stage s) ss
+
+-- the stage that a place begins an epoch with
+abbrev pub first_stage : Mode → Stage
+first_stage m = if is_rebuild m then stage.Ask else stage.Gather
+
+-- the stage whose batches a stage needs
+abbrev pub needed : Mode → Stage → Option Stage
+needed m stage.Gather = None
+needed m stage.Update = Some stage.Gather
+needed m stage.Signal = Some stage.Update
+needed m stage.Call = Some stage.Signal
+needed m stage.Ask = None
+needed m stage.Grant = Some stage.Ask
+needed m stage.End = Some (if is_rebuild m then stage.Grant else stage.Call)

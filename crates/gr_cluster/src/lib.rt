@@ -1,0 +1,2 @@
+//! A cluster as tables of plain data, and what each event makes of it. Definitions alone.
+#![tactic(auto)]

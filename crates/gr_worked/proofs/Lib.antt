@@ -1,0 +1,14 @@
+mod Agreement
+mod Losses
+mod LossesAgree
+mod Numbers
+mod OwedValues
+mod OwedValuesAgree
+mod Rebirths
+mod RebirthsAgree
+mod Repaired
+mod Rounds
+mod RoundsAgree
+mod SecondCrash
+mod TornAppend
+mod TornAppendAgree

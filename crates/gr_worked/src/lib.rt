@@ -1,0 +1,2 @@
+//! Worked runs of the definitions, by computation. Proofs alone.
+#![tactic(auto)]
