@@ -1,0 +1,73 @@
+-- Why a command line is refused: the status and the text of each cause.
+use Rattle.std.specs.Prelude.{ℕ, List, ◌++◌, codes, decimal}
+use Rattle.gr_edges.specs.declared.fault.GraphFault.{GraphFault}
+use Rattle.gr_edges.specs.declared.fault.GraphFault.TheVariants as graph
+use Rattle.gr_job.specs.declared.fault.JobFault.{JobFault}
+use Rattle.gr_job.specs.declared.fault.JobFault.TheVariants as job
+use Rattle.imitate.specs.declared.refusal.Input.{Input}
+use Rattle.imitate.specs.declared.refusal.Input.TheVariants as input
+use Rattle.imitate.specs.declared.refusal.Refusal.{Refusal}
+use Rattle.imitate.specs.declared.refusal.Refusal.TheVariants as refusal
+use Rattle.imitate.specs.Words.{PlainNames}
+
+-- how a fault of the graph, or of the job, is refused
+abbrev pub graph_refusal : GraphFault → Refusal
+graph_refusal graph.OutOfMemory = refusal.OutOfMemory
+graph_refusal fault = refusal.Graph fault
+
+abbrev pub job_refusal : JobFault → Refusal
+job_refusal job.OutOfMemory = refusal.OutOfMemory
+job_refusal fault = refusal.Job fault
+
+abbrev pub status_of : Refusal → ℕ
+status_of refusal.OutOfMemory = 1
+status_of refusal.Usage = 2
+status_of (refusal.Unreadable input) = 3
+status_of (refusal.TooLong input) = 4
+status_of (refusal.Graph fault) = 5
+status_of (refusal.Job fault) = 6
+status_of refusal.Output = 11
+
+abbrev pub memory_text : List ℕ
+memory_text = codes "out of memory"
+
+abbrev pub usage_text : List ℕ
+usage_text = codes "usage: imitate run GRAPH JOB SCHEDULE TRACE, plain GRAPH JOB, load SEED SIZE"
+
+-- the line of a graph that is at fault, and why
+abbrev pub graph_line : ℕ → List ℕ → List ℕ
+graph_line number why = codes "graph line " ++ decimal number ++ codes ": " ++ why
+
+abbrev pub graph_text : GraphFault → List ℕ
+graph_text (graph.NumberTooLarge line) = graph_line line (codes "number too large")
+graph_text (graph.BadLine line) = graph_line line (codes "bad line")
+graph_text (graph.TooManyEdges line) = graph_line line (codes "too many edges")
+graph_text (graph.TooManyVertices line) = graph_line line (codes "too many vertices")
+graph_text graph.OutOfMemory = memory_text
+
+abbrev pub job_text : JobFault → List ℕ
+job_text job.NotToml = codes "job: not TOML"
+job_text (job.UnknownKey key) = codes "job: unknown key " ++ key
+job_text (job.Missing key) = codes "job: missing " ++ key
+job_text (job.WrongType key) = codes "job: wrong type " ++ key
+job_text (job.OutOfRange key) = codes "job: out of range " ++ key
+job_text job.UnknownProgram = codes "job: unknown program"
+job_text job.OutOfMemory = memory_text
+
+-- the name of an input
+abbrev pub name_of : PlainNames → Input → List ℕ
+name_of names input.Graph = names.graph
+name_of names input.Job = names.job
+
+abbrev pub text_of : PlainNames → Refusal → List ℕ
+text_of names refusal.OutOfMemory = memory_text
+text_of names refusal.Usage = usage_text
+text_of names (refusal.Unreadable input) = codes "cannot read " ++ name_of names input
+text_of names (refusal.TooLong input) = codes "too long: " ++ name_of names input
+text_of names (refusal.Graph fault) = graph_text fault
+text_of names (refusal.Job fault) = job_text fault
+text_of names refusal.Output = codes "cannot write output"
+
+-- the line that is written of a refusal
+abbrev pub line_of : PlainNames → Refusal → List ℕ
+line_of names why = text_of names why ++ codes "\n"

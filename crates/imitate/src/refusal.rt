@@ -1,0 +1,149 @@
+ghost use Rattle.std.specs.Prelude.{◌≡◌, ◌++◌, codes, decimal, IfOk};
+ghost use Rattle.imitate.specs.Refusals.{status_of, graph_refusal, job_refusal, line_of, graph_text, graph_line, job_text};
+
+use gr_base::{OutOfMemory, push_number};
+use gr_edges::GraphFault;
+use gr_job::JobFault;
+use std::alloc::Global;
+
+/// A file that is read.
+#[derive(Clone, Copy, Debug, PartialEq, Eq)]
+pub enum Input {
+    Graph,
+    Job,
+}
+
+/// Why a command line gives no result.
+#[derive(Debug, Drop)]
+pub enum Refusal {
+    OutOfMemory,
+    Usage,
+    Unreadable(Input),
+    TooLong(Input),
+    Graph(GraphFault),
+    Job(JobFault),
+    Output,
+}
+
+impl From<OutOfMemory> for Refusal {
+    ghost use Rattle.imitate.specs.declared.refusal.Refusal.TheVariants.{OutOfMemory as memory};
+
+    ghost from_gives = { λ _ r. r ≡ memory };
+
+    fn from(_: OutOfMemory) -> Refusal {
+        Refusal::OutOfMemory
+    }
+}
+
+/// How a fault of the graph is refused.
+pub fn of_graph(fault: GraphFault) -> Refusal
+    ensures { result ≡ graph_refusal fault }
+{
+    match fault {
+        GraphFault::OutOfMemory => Refusal::OutOfMemory,
+        fault => Refusal::Graph(fault),
+    }
+}
+
+/// How a fault of the job is refused.
+pub fn of_job(fault: JobFault) -> Refusal
+    ensures { result ≡ job_refusal fault }
+{
+    match fault {
+        JobFault::OutOfMemory => Refusal::OutOfMemory,
+        fault => Refusal::Job(fault),
+    }
+}
+
+/// The status that the program ends with.
+pub fn status(refusal: &Refusal) -> u8
+    ensures { result ≡ status_of refusal.now }
+{
+    match refusal {
+        Refusal::OutOfMemory => 1,
+        Refusal::Usage => 2,
+        Refusal::Unreadable(_) => 3,
+        Refusal::TooLong(_) => 4,
+        Refusal::Graph(_) => 5,
+        Refusal::Job(_) => 6,
+        Refusal::Output => 11,
+    }
+}
+
+/// The line that is written of a refusal.
+pub fn line(
+    alloc: Global,
+    refusal: &Refusal,
+    graph: &str,
+    job: &str,
+) -> Result<Vec<u8>, OutOfMemory>
+    ensures { IfOk result (λ text. text.items ≡ line_of (record { graph = graph.now; job = job.now }) refusal.now) }
+{
+    let mut text = words(alloc, refusal, graph, job)?;
+    text.push(b'\n')?;
+    Ok(text)
+}
+
+fn words(alloc: Global, refusal: &Refusal, graph: &str, job: &str) -> Result<Vec<u8>, OutOfMemory>
+    ensures { IfOk result (λ text. text.items ++ codes "\n" ≡ line_of (record { graph = graph.now; job = job.now }) refusal.now) }
+{
+    match refusal {
+        Refusal::OutOfMemory => joined(alloc, b"out of memory", b""),
+        Refusal::Usage => joined(
+            alloc,
+            b"usage: imitate run GRAPH JOB SCHEDULE TRACE, plain GRAPH JOB, load SEED SIZE",
+            b"",
+        ),
+        Refusal::Unreadable(Input::Graph) => joined(alloc, b"cannot read ", graph.as_bytes()),
+        Refusal::Unreadable(Input::Job) => joined(alloc, b"cannot read ", job.as_bytes()),
+        Refusal::TooLong(Input::Graph) => joined(alloc, b"too long: ", graph.as_bytes()),
+        Refusal::TooLong(Input::Job) => joined(alloc, b"too long: ", job.as_bytes()),
+        Refusal::Graph(fault) => graph_words(alloc, fault),
+        Refusal::Job(fault) => job_words(alloc, fault),
+        Refusal::Output => joined(alloc, b"cannot write output", b""),
+    }
+}
+
+fn joined(alloc: Global, first: &[u8], second: &[u8]) -> Result<Vec<u8>, OutOfMemory>
+    ensures { IfOk result (λ text. text.items ≡ first.now ++ second.now) }
+{
+    let mut text = Vec::from_slice(alloc, first)?;
+    text.extend_from_slice(second)?;
+    Ok(text)
+}
+
+fn graph_words(alloc: Global, fault: &GraphFault) -> Result<Vec<u8>, OutOfMemory>
+    ensures { IfOk result (λ text. text.items ≡ graph_text fault.now) }
+{
+    match fault {
+        GraphFault::NumberTooLarge(line) => graph_line_words(alloc, *line, b"number too large"),
+        GraphFault::BadLine(line) => graph_line_words(alloc, *line, b"bad line"),
+        GraphFault::TooManyEdges(line) => graph_line_words(alloc, *line, b"too many edges"),
+        GraphFault::TooManyVertices(line) => graph_line_words(alloc, *line, b"too many vertices"),
+        GraphFault::OutOfMemory => joined(alloc, b"out of memory", b""),
+    }
+}
+
+fn graph_line_words(alloc: Global, line: u32, why: &[u8]) -> Result<Vec<u8>, OutOfMemory>
+    ensures { IfOk result (λ text. text.items ≡ graph_line line why.now) }
+{
+    let mut text = Vec::from_slice(alloc, b"graph line ".as_slice())?;
+    push_number(alloc, &mut text, u64::from(line))?;
+    text.extend_from_slice(b": ")?;
+    text.extend_from_slice(why)?;
+    Ok(text)
+}
+
+fn job_words(alloc: Global, fault: &JobFault) -> Result<Vec<u8>, OutOfMemory>
+    ensures { IfOk result (λ text. text.items ≡ job_text fault.now) }
+{
+    match fault {
+        JobFault::NotToml => joined(alloc, b"job: not TOML", b""),
+        JobFault::UnknownKey(key) => joined(alloc, b"job: unknown key ", key.as_bytes()),
+        JobFault::Missing(key) => joined(alloc, b"job: missing ", key.as_bytes()),
+        JobFault::WrongType(key) => joined(alloc, b"job: wrong type ", key.as_bytes()),
+        JobFault::OutOfRange(key) => joined(alloc, b"job: out of range ", key.as_bytes()),
+        JobFault::UnknownProgram => joined(alloc, b"job: unknown program", b""),
+        JobFault::OutOfMemory => joined(alloc, b"out of memory", b""),
+    }
+}
