@@ -1,0 +1,6 @@
+//! The edges of a place, in two layers.
+#![tactic(auto)]
+
+mod arcs;
+
+pub use arcs::Arcs;
