@@ -1,5 +1,5 @@
 -- What contracts see of `Arcs`.
-use Rattle.std.specs.Prelude.{List}
+use Rattle.std.specs.Prelude.{ℕ, List}
 use Rattle.gr_base.specs.Rising.{RisesBy}
 use Rattle.gr_base.specs.declared.records.NumberedEdge.{NumberedEdge}
 
@@ -8,7 +8,11 @@ pub record EdgeLayers : Type 0 where
   pub stable : List NumberedEdge
   pub pending : List NumberedEdge
 
+-- the number of an edge
+abbrev pub number_of : NumberedEdge → ℕ
+number_of e = e.number
+
 -- in each layer the numbers rise
 pub record EdgesRise (layers : EdgeLayers) : Type 0 where
-  pub stable_rises : RisesBy (λ e. e.number) layers.stable
-  pub pending_rises : RisesBy (λ e. e.number) layers.pending
+  pub stable_rises : RisesBy number_of layers.stable
+  pub pending_rises : RisesBy number_of layers.pending

@@ -2,8 +2,10 @@ ghost use Rattle.std.specs.Prelude.{◌≡◌, ◌<◌, ◌≤◌, ◌+◌, ◌^
 ghost use Rattle.std.specs.List.{prefix_len};
 ghost use Rattle.std.specs.Vec.{vec_len, vec_capacity};
 ghost use Rattle.gr_base.specs.Rising.{RisesBy, with_item};
-ghost use Rattle.gr_arcs.specs.Layers.{EdgesRise};
+ghost use Rattle.gr_arcs.specs.Layers.{EdgesRise, number_of};
+ghost use Rattle.gr_arcs.specs.End.{vertex_at};
 
+use crate::end::End;
 use gr_base::{NumberedEdge, OutOfMemory};
 use std::alloc::Global;
 use std::marker::Model;
@@ -22,15 +24,15 @@ impl Model for Arcs {
     ghost use Rattle.std.specs.Prelude.{◌≤◌};
     ghost use Rattle.std.specs.Vec.{vec_len, vec_capacity};
     ghost use Rattle.gr_base.specs.Rising.{RisesBy};
-    ghost use Rattle.gr_arcs.specs.Layers.{EdgeLayers};
+    ghost use Rattle.gr_arcs.specs.Layers.{EdgeLayers, number_of};
 
     ghost Value = { EdgeLayers };
 
     ghost view = { λ a. record { stable = a.stable.items; pending = a.pending.items } };
 
     ghost invariant = { λ a. record {
-        stable_rises : RisesBy (λ e. e.number) a.stable.items;
-        pending_rises : RisesBy (λ e. e.number) a.pending.items;
+        stable_rises : RisesBy number_of a.stable.items;
+        pending_rises : RisesBy number_of a.pending.items;
         room_for_install : vec_len a.pending ≤ vec_capacity a.stable;
         room_for_discard : vec_len a.stable ≤ vec_capacity a.pending;
     } };
@@ -76,16 +78,7 @@ impl Arcs {
         ensures next_fits { IfSome result (λ _. i + 1 < 2 ^ 64) }
         ensures rise { EdgesRise self.now }
     {
-        let mut left = i;
-        for edge in self.stable.as_slice() {
-            if edge.edge.dst == v {
-                if left == 0 {
-                    return Some(*edge);
-                }
-                left -= 1;
-            }
-        }
-        None
+        nth_at(self.stable.as_slice(), End::Target, v, i)
     }
 
     /// The `i`-th stable edge out of a vertex, counted from 0 in rising number. It scans the edges from the first on.
@@ -94,16 +87,7 @@ impl Arcs {
         ensures next_fits { IfSome result (λ _. i + 1 < 2 ^ 64) }
         ensures rise { EdgesRise self.now }
     {
-        let mut left = i;
-        for edge in self.stable.as_slice() {
-            if edge.edge.src == v {
-                if left == 0 {
-                    return Some(*edge);
-                }
-                left -= 1;
-            }
-        }
-        None
+        nth_at(self.stable.as_slice(), End::Source, v, i)
     }
 
     /// Adds a pending edge, whose number is not pending yet. An edge above all others costs amortized constant time
@@ -112,7 +96,7 @@ impl Arcs {
     /// The one error is that memory ran out; then both layers are as before.
     pub fn stage_edge(&mut self, edge: NumberedEdge) -> Result<(), OutOfMemory>
         requires fresh { IsNone (find (λ e. e.number == edge.number) self.old.pending) }
-        ensures ok { OnOk result (self.new ≡ record self.old { pending = with_item (λ e. e.number) edge self.old.pending }) }
+        ensures ok { OnOk result (self.new ≡ record self.old { pending = with_item number_of edge self.old.pending }) }
         ensures err { OnErr result (self.new ≡ self.old) }
     {
         let more = (self.pending.len() + 1).saturating_sub(self.stable.len());
@@ -139,7 +123,7 @@ impl Arcs {
 
 /// How many edges have a number below this one.
 fn place_of(edges: &[NumberedEdge], number: u32) -> usize
-    requires { RisesBy (λ e. e.number) edges.now }
+    requires { RisesBy number_of edges.now }
     ensures { result ≡ prefix_len (λ e. nat_lt e.number number) edges.now }
 {
     edges.partition_point(|edge| edge.number < number)
@@ -147,7 +131,7 @@ fn place_of(edges: &[NumberedEdge], number: u32) -> usize
 
 /// Whether an edge has this number.
 fn holds_number(edges: &[NumberedEdge], number: u32) -> bool
-    requires { RisesBy (λ e. e.number) edges.now }
+    requires { RisesBy number_of edges.now }
     ensures { result ≡ is_some (find (λ e. e.number == number) edges.now) }
 {
     let at = place_of(edges, number);
@@ -158,13 +142,30 @@ fn holds_number(edges: &[NumberedEdge], number: u32) -> bool
     }
 }
 
+/// The `i`-th of the edges that have this vertex at this end.
+fn nth_at(edges: &[NumberedEdge], end: End, v: u32, i: usize) -> Option<NumberedEdge>
+    ensures edge { result ≡ slice_get (filter (λ e. vertex_at end e.edge == v) edges.now) i }
+    ensures next_fits { IfSome result (λ _. i + 1 < 2 ^ 64) }
+{
+    let mut left = i;
+    for edge in edges {
+        if end.of(&edge.edge) == v {
+            if left == 0 {
+                return Some(*edge);
+            }
+            left -= 1;
+        }
+    }
+    None
+}
+
 /// Puts an edge at its number.
 fn put_edge(edges: &mut Vec<NumberedEdge>, edge: NumberedEdge) -> Result<(), OutOfMemory>
-    requires rises { RisesBy (λ e. e.number) edges.old.items }
+    requires rises { RisesBy number_of edges.old.items }
     requires fresh { IsNone (find (λ e. e.number == edge.number) edges.old.items) }
-    ensures ok { OnOk result (edges.new.items ≡ with_item (λ e. e.number) edge edges.old.items) }
+    ensures ok { OnOk result (edges.new.items ≡ with_item number_of edge edges.old.items) }
     ensures err { OnErr result (edges.new.items ≡ edges.old.items) }
-    ensures rises { RisesBy (λ e. e.number) edges.new.items }
+    ensures rises { RisesBy number_of edges.new.items }
     ensures len { vec_len edges.new ≤ vec_len edges.old + 1 }
     ensures capacity { vec_capacity edges.old ≤ vec_capacity edges.new }
 {

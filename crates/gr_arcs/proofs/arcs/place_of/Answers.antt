@@ -1,11 +1,8 @@
-use Rattle.std.proofs.Common.{ℕ, sym, ltb, rules}
+use Rattle.std.proofs.Common.{sym, ltb, rules}
 use Rattle.std.proofs.lemmas.List.Sorted.{IsPartitionPoint-from_clause, IsPartitionedBy-ltb}
 use Rattle.gr_base.proofs.Rising.{not-falling, prefix-at_point}
-use Rattle.gr_base.specs.declared.records.NumberedEdge.{NumberedEdge}
+use Rattle.gr_arcs.specs.Layers.{number_of}
 use Rattle.gr_arcs.proofs.arcs.place_of.Goals as goal
-
-abbrev number_of : NumberedEdge → ℕ
-number_of e = e.number
 
 pub returns : goal.returns
 returns c =

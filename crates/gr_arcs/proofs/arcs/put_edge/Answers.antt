@@ -1,4 +1,4 @@
-use Rattle.std.proofs.Common.{ℕ, ◌≡◌, ◌∙◌, ltb, length, None, sym, ap, subst, arith}
+use Rattle.std.proofs.Common.{◌≡◌, ◌∙◌, ltb, length, None, sym, ap, subst, arith}
 use Rattle.std.specs.List.{prefix_len}
 use Rattle.std.specs.Prelude.{IsNone}
 use Rattle.std.proofs.lemmas.Bool.{true≢false}
@@ -6,10 +6,8 @@ use Rattle.std.proofs.lemmas.List.Sums.{prefix_len-le-length}
 use Rattle.gr_base.specs.Rising.{RisesBy}
 use Rattle.gr_base.proofs.Rising.{found-at, with-missing, with-rises}
 use Rattle.gr_base.specs.declared.records.NumberedEdge.{NumberedEdge}
+use Rattle.gr_arcs.specs.Layers.{number_of}
 use Rattle.gr_arcs.proofs.arcs.put_edge.Goals as goal
-
-abbrev number_of : NumberedEdge → ℕ
-number_of e = e.number
 
 pub insert-requires : goal.insert-requires
 insert-requires c =

@@ -2,10 +2,11 @@ use Rattle.std.proofs.Common.{eqb, ◌≡◌, ◌≤◌, ◌+◌, drop}
 use Rattle.std.specs.Prelude.{slice_get}
 use Rattle.std.specs.List.{filter}
 use Rattle.gr_base.specs.declared.records.NumberedEdge.{NumberedEdge}
-use Rattle.gr_arcs.proofs.arcs.Arcs.out_of.Given as goal
+use Rattle.gr_arcs.specs.End.{vertex_at}
+use Rattle.gr_arcs.proofs.arcs.nth_at.Given as goal
 
 abbrev pub invariant-loop-edge : goal.invariant-loop-edge
 invariant-loop-edge l = record {
-  rest : slice_get (filter (λ (e : NumberedEdge). eqb e.edge.src l.v) (drop l.edge-index l.edge-items)) l.left ≡ slice_get (filter (λ (e : NumberedEdge). eqb e.edge.src l.v) l.edge-items) l.i;
+  rest : slice_get (filter (λ (e : NumberedEdge). eqb (vertex_at l.end e.edge) l.v) (drop l.edge-index l.edges)) l.left ≡ slice_get (filter (λ (e : NumberedEdge). eqb (vertex_at l.end e.edge) l.v) l.edges) l.i;
   passed : l.i ≤ l.left + l.edge-index;
 }
