@@ -30,10 +30,10 @@ impl<V: Datum> Model for Rows<V> {
     ghost view = { λ r. record { stable = r.stable.items; pending = r.pending.items } };
 
     ghost invariant = { λ r. record {
-        stable_rises : RisesBy vertex_of r.stable.items;
-        pending_rises : RisesBy vertex_of r.pending.items;
-        room_for_install : vec_len r.pending ≤ vec_capacity r.stable;
-        room_for_discard : vec_len r.stable ≤ vec_capacity r.pending;
+      stable_rises : RisesBy vertex_of r.stable.items;
+      pending_rises : RisesBy vertex_of r.pending.items;
+      room_for_install : vec_len r.pending ≤ vec_capacity r.stable;
+      room_for_discard : vec_len r.stable ≤ vec_capacity r.pending;
     } };
 }
 

@@ -1,11 +1,6 @@
 use Rattle.std.proofs.Common.{◌≡◌, ◌∙◌, ◌<◌, Some, None, ltb, length, slice_index_or, slice_set, sym, ap, subst, arith}
-use Rattle.std.specs.Prelude.{IsSome}
-use Rattle.std.specs.List.{prefix_len}
 use Rattle.std.proofs.lemmas.List.{get_or_default}
-use Rattle.std.proofs.lemmas.List.Sums.{prefix_len-le-length}
-use Rattle.gr_base.specs.Rising.{RisesBy}
-use Rattle.gr_base.proofs.Rising.{found-at, missing-at, stands-at, with-found, with-missing, with-rises, mapped-at, mapped-rises}
-use Rattle.gr_program.specs.declared.copy.VertexCopy.{VertexCopy}
+use Rattle.gr_base.proofs.Rising.{found-at, missing-at}
 use Rattle.gr_rows.specs.Layers.{vertex_of}
 use Rattle.gr_rows.proofs.rows.copy_of.Goals as goal
 use Rattle.gr_rows.proofs.rows.copy_of.Goals.{else-at-copies-via-then-at-copies+else-copies-at, else-at-copies-via-else-at-copies}

@@ -1,4 +1,4 @@
-use Rattle.std.proofs.Common.{◌≤◌, slice_set, slice_index_or, ◌≡◌, ◌∙◌, ◌++◌, length, take, drop, map, ap, sym, subst, refl, arith}
+use Rattle.std.proofs.Common.{◌≤◌, slice_set, slice_index_or, ◌∙◌, ◌++◌, length, drop, map, ap, sym, subst, refl, arith}
 use Rattle.std.proofs.lemmas.List.{take_all, drop_all, append-nil}
 use Rattle.std.proofs.lemmas.List.Edits.{map_over_more}
 use Rattle.gr_base.specs.Rising.{RisesBy}

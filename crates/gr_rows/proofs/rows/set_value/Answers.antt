@@ -1,11 +1,9 @@
-use Rattle.std.proofs.Common.{◌≡◌, ◌∙◌, ◌<◌, Bool, true, false, cond, eqb, refl, List, [], Some, None, ltb, length, slice_index_or, slice_set, sym, ap, subst, arith}
+use Rattle.std.proofs.Common.{◌≡◌, ◌∙◌, Bool, true, false, cond, eqb, refl, [], Some, None, ltb, length, slice_set, sym, ap, subst, arith}
 use Rattle.std.specs.Prelude.{IsSome}
 use Rattle.std.specs.List.{prefix_len}
 use Rattle.std.proofs.lemmas.Bool.{false≢true}
-use Rattle.std.proofs.lemmas.List.{get_or_default}
-use Rattle.std.proofs.lemmas.List.Sums.{prefix_len-le-length}
 use Rattle.gr_base.specs.Rising.{RisesBy}
-use Rattle.gr_base.proofs.Rising.{found-at, missing-at, stands-at, with-found, with-missing, with-rises, mapped-at, mapped-rises}
+use Rattle.gr_base.proofs.Rising.{stands-at, mapped-at, mapped-rises}
 use Rattle.gr_program.specs.declared.copy.VertexCopy.{VertexCopy}
 use Rattle.gr_rows.specs.Layers.{vertex_of}
 use Rattle.gr_rows.proofs.rows.set_value.Goals as goal
