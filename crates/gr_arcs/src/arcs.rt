@@ -31,10 +31,10 @@ impl Model for Arcs {
     ghost view = { λ a. record { stable = a.stable.items; pending = a.pending.items } };
 
     ghost invariant = { λ a. record {
-        stable_rises : RisesBy number_of a.stable.items;
-        pending_rises : RisesBy number_of a.pending.items;
-        room_for_install : vec_len a.pending ≤ vec_capacity a.stable;
-        room_for_discard : vec_len a.stable ≤ vec_capacity a.pending;
+      stable_rises : RisesBy number_of a.stable.items;
+      pending_rises : RisesBy number_of a.pending.items;
+      room_for_install : vec_len a.pending ≤ vec_capacity a.stable;
+      room_for_discard : vec_len a.stable ≤ vec_capacity a.pending;
     } };
 }
 

@@ -1,4 +1,4 @@
-use Rattle.std.proofs.Common.{ℕ, Bool, eqb, ◌≡◌, ◌∙◌, ◌<◌, ◌≤◌, ◌+◌, drop, length, refl, sym, ap, arith}
+use Rattle.std.proofs.Common.{ℕ, Bool, eqb, ◌∙◌, ◌+◌, drop, refl, sym, ap, arith}
 use Rattle.std.specs.Prelude.{slice_get}
 use Rattle.std.specs.List.{filter}
 use Rattle.std.proofs.lemmas.Bool.{eq-eqb, ne_eqb}
@@ -30,13 +30,13 @@ loop-edge-preserved c =
     let i = c.loop-edge.edge-index in
     elim c.if-of-v.branch [
       | then-of-v+else-left-eq0 w ↦ record {
-          rest = ap (slice_get (filter (passes c.args.end c.args.v) (drop (i + 1) xs))) w.left-is ∙ sym (nth-later (passes c.args.end c.args.v) xs i none c.loop-edge.left c.loop-edge-test.true (eq-eqb _ _ (sym c.of.ensures ∙ w.if-of-v.true)) (omega arith)) ∙ c.loop-edge.invariant.rest;
-          passed = omega arith;
-        }
+        rest = ap (slice_get (filter (passes c.args.end c.args.v) (drop (i + 1) xs))) w.left-is ∙ sym (nth-later (passes c.args.end c.args.v) xs i none c.loop-edge.left c.loop-edge-test.true (eq-eqb _ _ (sym c.of.ensures ∙ w.if-of-v.true)) (omega arith)) ∙ c.loop-edge.invariant.rest;
+        passed = omega arith;
+      }
       | else-of-v w ↦ record {
-          rest = ap (slice_get (filter (passes c.args.end c.args.v) (drop (i + 1) xs))) w.left-is ∙ sym (nth-past (passes c.args.end c.args.v) xs i none c.loop-edge.left c.loop-edge-test.true (ne_eqb _ _ (λ q. w.if-of-v.false (c.of.ensures ∙ q)))) ∙ c.loop-edge.invariant.rest;
-          passed = omega arith;
-        }
+        rest = ap (slice_get (filter (passes c.args.end c.args.v) (drop (i + 1) xs))) w.left-is ∙ sym (nth-past (passes c.args.end c.args.v) xs i none c.loop-edge.left c.loop-edge-test.true (ne_eqb _ _ (λ q. w.if-of-v.false (c.of.ensures ∙ q)))) ∙ c.loop-edge.invariant.rest;
+        passed = omega arith;
+      }
     ]
 
 pub returns-clause-edge : goal.returns-clause-edge

@@ -8,5 +8,5 @@ pub returns : goal.returns
 returns c =
     let xs = c.args.edges.now in
     let point = IsPartitionPoint-from_clause (λ x. ltb x.number c.args.number) xs c.partition_point.result c.partition_point.ensures.partitioned
-        (IsPartitionedBy-ltb number_of xs c.args.number (not-falling number_of xs c.requires)) (λ a r f h. search rules) in
+    (IsPartitionedBy-ltb number_of xs c.args.number (not-falling number_of xs c.requires)) (λ a r f h. search rules) in
     sym (prefix-at_point number_of c.args.number xs c.partition_point.result c.partition_point.ensures.bound point)
