@@ -6,7 +6,7 @@ mod body;
 mod outcome;
 mod stage;
 
-pub use batch::Batch;
+pub use batch::{Batch, copy_of, stage_of};
 pub use body::{Body, NewValue, Part};
 pub use outcome::{Fate, Outcome};
 pub use stage::Stage;

@@ -1,0 +1,8 @@
+//! Batches on their way, and batches that a place was given.
+#![tactic(auto)]
+
+mod flight;
+mod inbox;
+
+pub use flight::Flight;
+pub use inbox::Inbox;
