@@ -3,10 +3,15 @@
 
 mod batch;
 mod body;
+mod holders;
+mod item;
+mod number;
 mod outcome;
+mod spelling;
 mod stage;
 
 pub use batch::{Batch, copy_of, stage_of};
 pub use body::{Body, NewValue, Part};
 pub use outcome::{Fate, Outcome};
+pub use spelling::encode;
 pub use stage::Stage;
