@@ -1,8 +1,7 @@
 -- Batches as bytes.
-use Rattle.std.specs.Prelude.{ℕ, zero, suc, ◌≢◌, ◌+◌, ◌/◌, ◌%◌, ◌<◌, nat_lt, cond, IsTrue, List, [], ◌∷◌, ◌++◌, Option, Some, None, flat_map, length, if◌then◌else◌, ⊤}
+use Rattle.std.specs.Prelude.{ℕ, zero, suc, ◌≢◌, ◌+◌, ◌/◌, ◌%◌, ◌<◌, nat_lt, cond, IsTrue, List, [], ◌∷◌, ◌++◌, flat_map, length, if◌then◌else◌, ⊤}
 use Rattle.std.specs.List.{All}
 use Rattle.gr_base.specs.Rising.{RisesBy, has}
-use Rattle.gr_program.specs.declared.copy.VertexCopy.{VertexCopy}
 use Rattle.gr_batch.specs.declared.body.Body.{Body}
 use Rattle.gr_batch.specs.declared.body.Body.TheVariants as body
 use Rattle.gr_batch.specs.declared.batch.Batch.{Batch}

@@ -1,4 +1,4 @@
-use Rattle.std.proofs.Common.{◌≡◌, ◌∙◌, not, nat_lt, rules, sym, ap}
+use Rattle.std.proofs.Common.{◌≡◌, ◌∙◌, not, nat_lt, rules, ap}
 use Rattle.std.specs.List.{filter}
 use Rattle.std.proofs.lemmas.Fn.{filter_same}
 use Rattle.gr_flight.proofs.Once.{once-filter}

@@ -1,4 +1,4 @@
-use Rattle.std.proofs.Common.{◌≡◌, ◌<◌, ℕ, Bool, true, not}
+use Rattle.std.proofs.Common.{◌≡◌, ◌<◌, ℕ, true}
 use Rattle.std.specs.List.{list_any}
 use Rattle.gr_base.specs.Places.{IsPlaces}
 use Rattle.gr_base.specs.Rising.{has}
