@@ -1,1 +1,4 @@
+pub mod Lists
+pub mod Numbers
+pub mod Words
 mod Worked

@@ -1,15 +1,13 @@
 -- Batches as bytes.
-use Rattle.std.specs.Prelude.{ℕ, zero, suc, ◌≢◌, ◌+◌, ◌/◌, ◌%◌, ◌<◌, nat_lt, cond, IsTrue, List, [], ◌∷◌, ◌++◌, Option, Some, None, flat_map, length, if◌then◌else◌, ⊤}
+use Rattle.std.specs.Prelude.{ℕ, zero, suc, ◌≢◌, ◌+◌, ◌/◌, ◌%◌, ◌<◌, nat_lt, cond, IsTrue, List, [], ◌∷◌, ◌++◌, flat_map, length, if◌then◌else◌, ⊤}
 use Rattle.std.specs.List.{All}
-use Rattle.gr_base.specs.Places.{word_of}
 use Rattle.gr_base.specs.Rising.{RisesBy, has}
-use Rattle.gr_program.specs.declared.copy.VertexCopy.{VertexCopy}
 use Rattle.gr_batch.specs.declared.body.Body.{Body}
 use Rattle.gr_batch.specs.declared.body.Body.TheVariants as body
 use Rattle.gr_batch.specs.declared.batch.Batch.{Batch}
 use Rattle.gr_batch.specs.Stages.{code_of}
 use Rattle.gr_batch.specs.Bodies.{stage_of_body}
-use Rattle.gr_batch.specs.Telling.{Telling}
+use Rattle.gr_batch.specs.Telling.{Telling, copy_told}
 
 -- the low seven bits of a number first, and each byte but the last marked by 128; k + 1 bytes at most
 abbrev pub groups : ℕ → ℕ → List ℕ
@@ -17,18 +15,10 @@ groups zero n = n ∷ []
 groups (suc k) n = if nat_lt n 128 then n ∷ [] else (n % 128 + 128) ∷ groups k (n / 128)
 
 -- a number below 2 ^ 64 in its shortest spelling, which has ten bytes at most
-abbrev pub number_bytes : ℕ → List ℕ
+unfoldable pub number_bytes : ℕ → List ℕ
 number_bytes n = groups 9 n
 
 module _ {V A : Type 0} (T : Telling V A) where
-  -- whether a copy has a value, and its numbers where it has one
-  abbrev pub value_item : Option V → List ℕ
-  value_item None = 0 ∷ []
-  value_item (Some x) = 1 ∷ T.value_numbers x
-
-  abbrev pub copy_item : VertexCopy V → List ℕ
-  copy_item c = c.vertex ∷ c.indeg ∷ c.outdeg ∷ c.master ∷ word_of c.holders ∷ (value_item c.value ++ cond c.due 1 0 ∷ [])
-
   -- the number of items, and the numbers of each
   abbrev pub body_numbers : Body V A → List ℕ
   body_numbers (body.Gather xs) = length xs ∷ flat_map (λ x. x.vertex ∷ T.sum_numbers x.acc) xs
@@ -36,12 +26,15 @@ module _ {V A : Type 0} (T : Telling V A) where
   body_numbers (body.Signal xs) = length xs ∷ xs
   body_numbers (body.Call xs) = length xs ∷ xs
   body_numbers (body.Ask xs) = length xs ∷ xs
-  body_numbers (body.Grant xs) = length xs ∷ flat_map copy_item xs
+  body_numbers (body.Grant xs) = length xs ∷ flat_map (copy_told T.value_numbers) xs
+
+  -- the numbers that tell a batch
+  abbrev pub batch_numbers : Batch V A → List ℕ
+  batch_numbers b = b.serial ∷ b.epoch ∷ b.round ∷ code_of (stage_of_body b.body) ∷ b.sender ∷ b.receiver ∷ body_numbers b.body
 
   -- the one spelling of a batch
   unfoldable pub batch_bytes : Batch V A → List ℕ
-  batch_bytes b =
-      flat_map number_bytes (b.serial ∷ b.epoch ∷ b.round ∷ code_of (stage_of_body b.body) ∷ b.sender ∷ b.receiver ∷ body_numbers b.body)
+  batch_bytes b = flat_map number_bytes (batch_numbers b)
 
 -- the vertices of a body rise
 abbrev pub Rises : {V A : Type 0} → Body V A → Type 0

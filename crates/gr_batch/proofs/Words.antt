@@ -1,0 +1,92 @@
+-- A set of places and its word, place by place.
+use Rattle.std.proofs.Common.{◌≡◌, ◌≢◌, ◌∙◌, ◌≤◌, ◌<◌, ◌+◌, ◌*◌, ◌%◌, ◌^◌, ℕ, zero, suc, Bool, true, false, cond, eqb, List, [], ◌∷◌, All, refl, sym, ap, add-one, arith, inl, inr}
+use Rattle.std.proofs.lemmas.Bool.{cases_Bool, cases_order, cond-true, cond-false, eq-eqb, ne_eqb, or_left}
+use Rattle.std.proofs.lemmas.Nat.{pow-add, one_shl}
+use Rattle.std.proofs.Math.Nat.{pow-le-pow_right}
+use Rattle.gr_base.specs.Places.{members_from, word_of, IsPlaces}
+use Rattle.gr_base.specs.Rising.{RisesBy, has}
+use Rattle.gr_base.proofs.Members.{members_on, members_off, members_nil, members_same}
+use Rattle.gr_base.proofs.Rising.{rises-head, rises-tail, none-later}
+
+double : (a : ℕ) → 2 ^ (a + 1) ≡ 2 * 2 ^ a
+double a = omega (arith, pow-add 2 a 1)
+
+-- one place more
+pub word_of-next : (f : ℕ → Bool) (a k : ℕ) → word_of (members_from f a (suc k)) ≡ word_of (members_from f a k) + cond (f (a + k)) (2 ^ (a + k)) 0
+word_of-next f a zero = elim (cases_Bool (f a)) [
+  | inl on ↦ let e : a + 0 ≡ a = omega arith in rw (members_on f a zero on, members_nil f (a + 1), members_nil f a, e, on) (omega arith)
+  | inr off ↦ let e : a + 0 ≡ a = omega arith in rw (members_off f a zero off, members_nil f (a + 1), members_nil f a, e, off) refl
+]
+word_of-next f a (suc k) =
+    let rest = word_of-next f (a + 1) k in
+    let e : a + 1 + k ≡ a + suc k = omega arith in
+    let next : word_of (members_from f (a + 1) (suc k)) ≡ word_of (members_from f (a + 1) k) + cond (f (a + suc k)) (2 ^ (a + suc k)) 0 = rest ∙ ap (λ (n : ℕ). word_of (members_from f (a + 1) k) + cond (f n) (2 ^ n) 0) e in
+    elim (cases_Bool (f a)) [
+      | inl on ↦ omega (arith, next, ap word_of (members_on f a (suc k) on), ap word_of (members_on f a k on))
+      | inr off ↦ omega (arith, next, ap word_of (members_off f a (suc k) off), ap word_of (members_off f a k off))
+    ]
+
+-- it stays below the next place's bit
+word_of-within : (f : ℕ → Bool) (a k : ℕ) → word_of (members_from f a k) + 2 ^ a ≤ 2 ^ (a + k)
+word_of-within f a zero = let e : 2 ^ (a + 0) ≡ 2 ^ a = ap (λ (n : ℕ). 2 ^ n) (omega arith) in omega (arith, e, ap word_of (members_nil f a))
+word_of-within f a (suc k) =
+    let rest = word_of-within f (a + 1) k in
+    let e : 2 ^ (a + 1 + k) ≡ 2 ^ (a + suc k) = ap (λ (n : ℕ). 2 ^ n) (omega arith) in
+    elim (cases_Bool (f a)) [
+      | inl on ↦ omega (arith, rest, e, double a, ap word_of (members_on f a k on))
+      | inr off ↦ omega (arith, rest, e, double a, ap word_of (members_off f a k off))
+    ]
+
+-- the word of the places below p, with the bit of p or without it
+module _ (f : ℕ → Bool) (p : ℕ) where
+  next : word_of (members_from f 0 (p + 1)) ≡ word_of (members_from f 0 p) + cond (f p) (2 ^ p) 0
+  next =
+      let e : 0 + p ≡ p = omega arith in
+      ap (λ (n : ℕ). word_of (members_from f 0 n)) (add-one p) ∙ word_of-next f 0 p ∙ ap (λ (n : ℕ). word_of (members_from f 0 p) + cond (f n) (2 ^ n) 0) e
+
+  pub word-fits : p < 64 → word_of (members_from f 0 p) + 2 ^ p < 2 ^ 64
+  word-fits lt =
+      let e : 2 ^ (0 + p) ≡ 2 ^ p = ap (λ (n : ℕ). 2 ^ n) (omega arith) in
+      let most : 2 ^ (p + 1) ≤ 2 ^ 64 = pow-le-pow_right (omega arith) {i = p + 1} {j = 64} (omega arith) in
+      omega (arith, word_of-within f 0 p, e, most, double p)
+
+  pub word-with : (word : ℕ) → p < 64 → word ≡ word_of (members_from f 0 p) → f p ≡ true → word + 1 * 2 ^ p % 2 ^ 64 ≡ word_of (members_from f 0 (p + 1))
+  word-with word lt so_far on =
+      let bit : cond (f p) (2 ^ p) 0 ≡ 2 ^ p = cond-true (f p) (2 ^ p) 0 on in
+      omega (arith, next, bit, one_shl p 64 lt, so_far)
+
+  pub word-without : f p ≡ false → word_of (members_from f 0 (p + 1)) ≡ word_of (members_from f 0 p)
+  word-without off =
+      let bit : cond (f p) (2 ^ p) 0 ≡ 0 = cond-false (f p) (2 ^ p) 0 off in
+      omega (arith, next, bit)
+
+-- a rising list is that of the places which stand in it
+members_has : (ps : List ℕ) (a k : ℕ) → RisesBy (λ (n : ℕ). n) ps → All (λ p. a ≤ p) ps → All (λ p. p < a + k) ps → members_from (has ps) a k ≡ ps
+members_has [] a zero r low high = members_nil (has []) a
+members_has [] a (suc k) r low high = members_off (has []) a k refl ∙ members_has [] (a + 1) k r (λ i d l. absurd (omega arith)) (λ i d l. absurd (omega arith))
+members_has (p ∷ ps) a zero r low high = absurd (omega (arith, low 0 p (omega arith), high 0 p (omega arith)))
+members_has (p ∷ ps) a (suc k) r low high =
+    let first = low 0 p (omega arith) in
+    let later = rises-head (λ n. n) p ps r in
+    elim (cases_order p a) [
+      | inl same ↦
+          let on : has (p ∷ ps) a ≡ true = or_left (eqb p a) (has ps a) (eq-eqb p a same) in
+          let rest = members_has ps (a + 1) k (rises-tail (λ n. n) p ps r) (λ i d l. omega (arith, later i d l)) (λ i d l. omega (arith, high (suc i) d (omega arith))) in
+          members_on (has (p ∷ ps)) a k on ∙ ap (λ (qs : List ℕ). a ∷ qs) (members_same (has (p ∷ ps)) (has ps) (a + 1) k (λ q l h. skip p q ps (omega arith)) ∙ rest) ∙ ap (λ (q : ℕ). q ∷ ps) (sym same)
+      | inr apart ↦ elim apart [
+        | inl lt ↦ absurd (omega arith)
+        | inr gt ↦
+            let off : has (p ∷ ps) a ≡ false = skip p a ps (omega arith) ∙ (none-later (λ n. n) a p ps (omega arith) later).1 in
+            members_off (has (p ∷ ps)) a k off ∙ members_has (p ∷ ps) (a + 1) k r (above (a + 1) p ps (omega arith) later) (λ i d l. omega (arith, high i d l))
+      ]
+    ]
+  where
+    skip : (p q : ℕ) (ps : List ℕ) → p ≢ q → has (p ∷ ps) q ≡ has ps q
+    skip p q ps ne = let off = ne_eqb p q ne in rw off refl
+
+    above : (n p : ℕ) (ps : List ℕ) → n ≤ p → All (λ q. p < q) ps → All (λ q. n ≤ q) (p ∷ ps)
+    above n p ps le later zero d l = le
+    above n p ps le later (suc i) d l = omega (arith, later i d (omega arith))
+
+pub places_has : (ps : List ℕ) → IsPlaces ps → members_from (has ps) 0 64 ≡ ps
+places_has ps h = members_has ps 0 64 h.rise (λ i d l. omega arith) h.below
