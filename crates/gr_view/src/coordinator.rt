@@ -2,6 +2,7 @@ ghost use Rattle.std.specs.Prelude.{◌≡◌, ◌+◌, ◌-◌, ◌^◌, ◌<�
 ghost use Rattle.gr_base.specs.Rising.{has as is_in, includes as holds_all};
 ghost use Rattle.gr_view.specs.Modes.{is_over, is_failed, is_rebuild, is_open, is_round};
 ghost use Rattle.gr_view.specs.Decisions.{first_coordinator, parties, reported, raised, failed, sent_back, committed, round_committed, rebuild_committed, unready, looked_at, at_barrier, at_recovery, at_repair, at_discard, may_recover};
+ghost use Rattle.gr_view.specs.Room.{HasRoom};
 ghost use Rattle.gr_view.specs.Answers.{ToldFailed, ToldNotReady, ToldIdle, opens_nothing, tells_loss};
 
 use crate::places::{difference, includes, union};
@@ -227,10 +228,7 @@ impl Coordinator {
     /// no further place has crashed. In these last two cases nothing changes.
     pub fn barrier(&mut self, crashed: PlaceSet) -> Verdict
         requires crashed { IsTrue (holds_all (looked_at self.old) crashed) }
-        requires epoch { self.old.epoch < 2 ^ 64 - 1 }
-        requires commits { self.old.commits < 2 ^ 64 - 1 }
-        requires rounds { self.old.round < 2 ^ 32 - 1 }
-        requires spares { self.old.spares + length self.old.reborn ≤ 255 }
+        requires room { HasRoom self.old }
 
         ensures decision { (self.new, result) ≡ at_barrier self.old crashed }
         ensures failed { ToldFailed self.old crashed result }
