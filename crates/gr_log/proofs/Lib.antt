@@ -1,1 +1,5 @@
+mod Logs
+mod Places
+mod Reading
 mod Worked
+mod Written

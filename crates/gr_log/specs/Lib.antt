@@ -1,3 +1,4 @@
 pub mod Bytes
 pub mod Directory
 pub mod Log
+pub mod Reading

@@ -1,1 +1,3 @@
+mod Decided
+mod Sets
 mod Worked

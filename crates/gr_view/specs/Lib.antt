@@ -1,2 +1,4 @@
+pub mod Answers
 pub mod Decisions
 pub mod Modes
+pub mod Room

@@ -2,5 +2,8 @@
 #![tactic(auto)]
 
 mod coordinator;
+mod places;
+#[cfg(test)]
+mod tests;
 
 pub use coordinator::{Coordinator, Mode, Opening, Verdict};
