@@ -1,1 +1,4 @@
+pub mod Gathering
+pub mod Granting
+pub mod Selecting
 mod Worked
