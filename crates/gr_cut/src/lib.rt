@@ -4,19 +4,28 @@
 //! spread over the masters of their sources.
 #![tactic(auto)]
 
-ghost use Rattle.std.specs.Prelude.{◌≡◌};
-ghost use Rattle.gr_cut.specs.Cut.{is_high as is_above, edge_place as place_by_masters};
+mod place;
+mod place_edges;
 
-/// Whether a vertex of this in-degree is high: more than `theta` edges end at it.
-pub fn is_high(indeg: u32, theta: u32) -> bool
-    ensures { result ≡ is_above theta indeg }
-{
-    indeg > theta
-}
+pub use place::{edge_place, is_high};
+pub use place_edges::{PlaceEdges, cut};
 
-/// The place of an edge: the master of its target, or of its source where the target is high.
-pub fn edge_place(master_src: u8, master_dst: u8, dst_high: bool) -> u8
-    ensures { result ≡ place_by_masters master_src master_dst dst_high }
-{
-    if dst_high { master_src } else { master_dst }
+#[cfg(test)]
+mod tests {
+    use super::*;
+    use gr_edges::read_graph;
+    use std::test::Fail;
+
+    #[test]
+    fn edges_into_a_high_vertex_stand_with_their_sources(rt: HostRuntime) -> Result<(), Fail> {
+        let alloc = rt.alloc();
+        let graph = read_graph(alloc, b"0 1\n1 2\n0 2", false)?;
+        let low = cut(alloc, &graph, 2, 2)?;
+        assert_eq!(rt; low.at(0), [1, 2].as_slice());
+        assert_eq!(rt; low.at(1), [0].as_slice());
+        let high = cut(alloc, &graph, 2, 1)?;
+        assert_eq!(rt; high.at(0), [2].as_slice());
+        assert_eq!(rt; high.at(1), [0, 1].as_slice());
+        Ok(())
+    }
 }
