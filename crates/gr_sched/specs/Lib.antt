@@ -1,1 +1,4 @@
+pub mod Fields
+pub mod Printed
+pub mod Reading
 pub mod Text

@@ -108,7 +108,7 @@ fn results_of_small_graphs(rt: HostRuntime) -> Result<(), Fail> {
             "places = 2\nprogram = \"reach\"\nseeds = [0, 3]",
             "done 2 4\n0 1\n1 3\n2 3\n3 2\n",
         ),
-        ("7\n", SHORTEST, "done 1 1\n7 inf\n"),
+        ("7\n", FIVE_LINES, "done 1 1\n7 inf\n"),
         (
             "7\n",
             "places = 2\nprogram = \"hops\"\nsource = 0",
@@ -129,13 +129,13 @@ fn refusals_and_their_lines(rt: HostRuntime) -> Result<(), Fail> {
     let rows = [
         (
             "0 1\n1 2\n0 2\n1 2.5\n",
-            SHORTEST,
+            FIVE_LINES,
             5,
             "graph line 4: bad line\n",
         ),
         (
             "4294967296 1\n",
-            SHORTEST,
+            FIVE_LINES,
             5,
             "graph line 1: number too large\n",
         ),
