@@ -1,6 +1,6 @@
-use Rattle.std.proofs.Common.{◌≡◌, ◌∙◌, ◌<◌, true, false, eqb, length, take, slice_index, slice_index_or, sym, ap, refl}
+use Rattle.std.proofs.Common.{◌≡◌, ◌∙◌, ◌<◌, true, false, eqb, length, take, slice_index, slice_index_or, sym, ap}
 use Rattle.std.proofs.lemmas.Bool.{eq-eqb, ne_eqb}
-use Rattle.std.proofs.lemmas.List.{length-map, get_or-map, take_all}
+use Rattle.std.proofs.lemmas.List.{length-map, get_or-map}
 use Rattle.gr_base.specs.declared.records.Edge.{Edge}
 use Rattle.gr_base.specs.Degrees.{outdegree}
 use Rattle.gr_edges.specs.declared.graph.VertexInfo.{VertexInfo}

@@ -1,4 +1,4 @@
-use Rattle.std.proofs.Common.{◌≡◌, ◌∙◌, ◌<◌, ◌≤◌, ◌+◌, ◌-◌, ℕ, Bool, true, false, length, map, slice_index, slice_index_or, IsTrue, if◌then◌else◌, sym, ap, arith}
+use Rattle.std.proofs.Common.{◌≡◌, ◌∙◌, ◌<◌, ◌≤◌, ◌+◌, true, false, length, map, slice_index, slice_index_or, IsTrue, if◌then◌else◌, sym, ap, arith}
 use Rattle.std.proofs.lemmas.List.{length-map, get_or-map, take_all, length_push}
 use Rattle.std.proofs.lemmas.List.Elements.{All-push}
 use Rattle.gr_edges.specs.declared.graph.VertexInfo.{VertexInfo}

@@ -1,4 +1,4 @@
-use Rattle.std.proofs.Common.{◌≡◌, ◌∙◌, ◌<◌, ◌≤◌, ◌+◌, ◌&&◌, length, map, false, ap}
+use Rattle.std.proofs.Common.{◌∙◌, ◌<◌, ◌≤◌, ◌+◌, ◌&&◌, length, map, false, ap}
 use Rattle.std.proofs.lemmas.List.{length-map, take_all, length_push}
 use Rattle.gr_uncut.proofs.Sums.{map-push}
 use Rattle.gr_trials.proofs.Folding.{map-read, map-at}
