@@ -15,7 +15,7 @@ use Rattle.gr_cluster.specs.Step.{lost_list}
 use Rattle.gr_cluster.specs.Runs.{Played, IsRun}
 use Rattle.gr_cluster.specs.Budget.{IsWithinBudget}
 use Rattle.gr_cluster.specs.Ending.{ending_of, ending_text}
-use Rattle.gr_cluster.specs.TraceText.{lost_text, unfinished_text}
+use Rattle.gr_report.specs.Endings.{lost_text, unfinished_text}
 use Rattle.gr_agree.specs.FirstTruth.{IsGraph, IsSetting}
 use Rattle.gr_agree.specs.Laws.{NamesPlaces}
 

@@ -10,7 +10,7 @@ use Rattle.gr_log.specs.Directory.{with_items}
 use Rattle.gr_base.specs.Places.{below}
 use Rattle.gr_cluster.specs.Tables.{Cluster, host, effective}
 use Rattle.gr_cluster.specs.Step.{lost_list}
-use Rattle.gr_cluster.specs.TraceText.{lost_text, unfinished_text}
+use Rattle.gr_report.specs.Endings.{lost_text, unfinished_text}
 
 -- done, with vertices lost, or early, after so many rounds
 pub data Ending : Type 0 where

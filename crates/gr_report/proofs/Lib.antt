@@ -1,1 +1,4 @@
+pub mod Appending
+pub mod Commas
 pub mod Fronts
+mod Worked
