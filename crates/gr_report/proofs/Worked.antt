@@ -13,7 +13,8 @@ use Rattle.gr_batch.specs.Telling.{Telling}
 use Rattle.gr_sched.specs.declared.event.Event.{Event}
 use Rattle.gr_sched.specs.declared.event.Event.TheVariants as event
 use Rattle.gr_report.specs.Endings.{lost_text, unfinished_text}
-use Rattle.gr_report.specs.Trace.{telling, outcome_text}
+use Rattle.gr_batch.specs.Telling.{telling}
+use Rattle.gr_report.specs.Trace.{outcome_text}
 
 abbrev pair : Telling ℕ ℕ
 pair = telling (λ n. n ∷ 7 ∷ []) (λ n. n ∷ [])

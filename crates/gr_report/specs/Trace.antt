@@ -59,10 +59,6 @@ abbrev pub opened_text : Event → ℕ → List ℕ
 opened_text (event.Recover ps) n = codes "recover epoch" ++ word n ++ rebirth_text ps
 opened_text _ n = codes "repair epoch" ++ word n
 
--- how a program's values and sums are told, by the numbers of each
-abbrev pub telling : {V A : Type 0} → (V → List ℕ) → (A → List ℕ) → Telling V A
-telling value_numbers sum_numbers = record { value_numbers = value_numbers; sum_numbers = sum_numbers }
-
 -- a value that is not kept is told by a dash
 abbrev pub kept_text : {V : Type 0} → (V → List ℕ) → Option V → List ℕ
 kept_text numbers None = codes "-"

@@ -1,6 +1,7 @@
 ghost use Rattle.std.specs.Prelude.{◌≡◌, ◌++◌, flat_map, codes, decimal, OnOk};
 ghost use Rattle.gr_sched.specs.Text.{word, words};
-ghost use Rattle.gr_report.specs.Trace.{telling, comma_text, mark_text, kept_text, part_text, new_text, copy_text, body_text};
+ghost use Rattle.gr_batch.specs.Telling.{telling};
+ghost use Rattle.gr_report.specs.Trace.{comma_text, mark_text, kept_text, part_text, new_text, copy_text, body_text};
 
 use crate::words::{write_datum, write_holders, write_mark, write_text};
 use gr_base::{OutOfMemory, push_number};

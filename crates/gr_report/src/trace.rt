@@ -2,7 +2,8 @@ ghost use Rattle.std.specs.Prelude.{◌≡◌, ◌++◌, codes, IsTrue, OnOk, On
 ghost use Rattle.gr_report.specs.Goes.{goes_with};
 ghost use Rattle.gr_batch.specs.Bodies.{stage_of_body};
 ghost use Rattle.gr_sched.specs.Text.{word};
-ghost use Rattle.gr_report.specs.Trace.{telling, stage_text, place_of_event, work_text, opened_text, delivered_text, outcome_text, outcome_line};
+ghost use Rattle.gr_batch.specs.Telling.{telling};
+ghost use Rattle.gr_report.specs.Trace.{stage_text, place_of_event, work_text, opened_text, delivered_text, outcome_text, outcome_line};
 
 use crate::items::write_body;
 use crate::words::{write_fate, write_named, write_stage, write_text};
