@@ -1,0 +1,4 @@
+pub mod Frame
+pub mod Removal
+pub mod Taken
+pub mod Kept
