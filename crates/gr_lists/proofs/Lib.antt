@@ -1,3 +1,6 @@
+pub mod Any
+pub mod Choices
 pub mod Counts
 pub mod Each
+pub mod Selections
 pub mod Tests
