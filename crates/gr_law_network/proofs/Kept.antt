@@ -169,7 +169,7 @@ module _ {V A : Type 0} (P : Program V A) (t : Truth V) (c : Cluster V A) (AG : 
   unchanged b i o at K = subst (λ hs. IsKept P t c (record c { hosts = hs; flight = remove c.flight i })) (sym (with_host-same c b.receiver o at)) K
 
   -- a place that is up is a party
-  up-party : (p : ℕ) (h : Host V A) → host c p ≡ Some h → has (parties c.coordinator) p ≡ true
+  pub up-party : (p : ℕ) (h : Host V A) → host c p ≡ Some h → has (parties c.coordinator) p ≡ true
   up-party p h at =
       let co = c.coordinator in
       let PL = AG.committed.places in
@@ -186,7 +186,7 @@ module _ {V A : Type 0} (P : Program V A) (t : Truth V) (c : Cluster V A) (AG : 
       (λ no_reborn. absurd (let bad : true ≡ false = sym up ∙ PL.dead_down p d no_reborn in cc)))
       (λ no_dead. absurd (let one' = rw (no_live, no_dead, no_retired) at one in omega (arith, one')))))
 
-  epoch-le : (p : ℕ) (h : Host V A) → host c p ≡ Some h → h.epoch ≤ c.coordinator.epoch
+  pub epoch-le : (p : ℕ) (h : Host V A) → host c p ≡ Some h → h.epoch ≤ c.coordinator.epoch
   epoch-le p h at = (AG.open_work.hosts p h at (up-party p h at)).epoch
 
   received-kept : (b : Batch V A) (i : ℕ) → slice_get c.flight i ≡ Some b → (o : Option (Host V A)) → host c b.receiver ≡ o

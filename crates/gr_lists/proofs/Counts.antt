@@ -1,7 +1,7 @@
 -- How many elements pass a test, through an append, a filter and a removal.
-use Rattle.std.proofs.Common.{◌≡◌, ℕ, zero, suc, ◌+◌, ◌<◌, ◌≤◌, List, [], ◌∷◌, ◌++◌, Bool, true, false, cond, filter, refl, ap, sym, ◌∙◌, arith, Some, slice_get, remove}
+use Rattle.std.proofs.Common.{◌≡◌, ℕ, zero, suc, ◌+◌, ◌<◌, ◌≤◌, List, [], ◌∷◌, ◌++◌, Bool, true, false, cond, ◌&&◌, ◌||◌, map, filter, refl, ap, sym, ◌∙◌, arith, Some, slice_get, remove}
 use Rattle.std.specs.Prelude.{count_by}
-use Rattle.std.specs.List.{list_any}
+use Rattle.std.specs.List.{AllByRecursion as Each, list_any}
 use Rattle.std.proofs.lemmas.List.Sums.{sum_by-append, sum_by-cons}
 use Rattle.gr_lists.proofs.Tests.{by_test}
 
@@ -44,3 +44,34 @@ module _ {X : Type 0} (f : X → Bool) where
   some-counted (x ∷ xs) h = let c = count_by-cons x xs in by_test (f x)
       (λ e. let one : one_if x ≡ 1 = ap (λ b. cond b 1 0) e in omega (arith, c, one))
       (λ e. let h' = rw e at h in let ih = some-counted xs h' in omega (arith, c, ih))
+
+  -- a test that holds of each element alike
+  pub count_by-agree : (g : X → Bool) (xs : List X) → Each (λ x. f x ≡ g x) xs → count_by f xs ≡ count_by g xs
+  count_by-agree g [] h = refl
+  count_by-agree g (x ∷ xs) h =
+      let ih = count_by-agree g xs h.1 in let c = count_by-cons x xs in let d = sum_by-cons (λ y. cond {A = ℕ} (g y) 1 0) x xs in
+      let same : one_if x ≡ cond (g x) 1 0 = ap (λ b. cond b 1 0) h.0 in omega (arith, ih, c, d, same)
+
+  -- two tests that exclude each other
+  pub count_by-or : (g k : X → Bool) (xs : List X) → Each (λ x. (f x ≡ (g x || k x)) × ((g x && k x) ≡ false)) xs → count_by f xs ≡ count_by g xs + count_by k xs
+  count_by-or g k [] h = refl
+  count_by-or g k (x ∷ xs) h =
+      let ih = count_by-or g k xs h.1 in let c = count_by-cons x xs in let d = sum_by-cons (λ y. cond {A = ℕ} (g y) 1 0) x xs in let e = sum_by-cons (λ y. cond {A = ℕ} (k y) 1 0) x xs in
+      let split : one_if x ≡ cond {A = ℕ} (g x) 1 0 + cond {A = ℕ} (k x) 1 0 = ap (λ b. cond {A = ℕ} b 1 0) h.0.0 ∙ either (g x) (k x) h.0.1 in omega (arith, ih, c, d, e, split)
+    where
+      either : (a b : Bool) → (a && b) ≡ false → cond {A = ℕ} (a || b) 1 0 ≡ cond a 1 0 + cond b 1 0
+      either true true n = absurd (let bad : true ≡ false = n in cc)
+      either true false n = refl
+      either false true n = refl
+      either false false n = refl
+
+module _ {X Y : Type 0} where
+  -- a count of the images of some elements, as one of the whole list
+  pub count_by-map-filter : (f : Y → Bool) (h : X → Y) (p g : X → Bool) (xs : List X) → Each (λ x. (p x ≡ true → f (h x) ≡ g x) × (p x ≡ false → g x ≡ false)) xs → count_by f (map h (filter p xs)) ≡ count_by g xs
+  count_by-map-filter f h p g [] a = refl
+  count_by-map-filter f h p g (x ∷ xs) a =
+      let ih = count_by-map-filter f h p g xs a.1 in let d = count_by-cons g x xs in by_test (p x)
+      (λ k. let e : count_by f (map h (filter p (x ∷ xs))) ≡ count_by f (h x ∷ map h (filter p xs)) = ap (λ b. count_by f (map h (cond b (x ∷ filter p xs) (filter p xs)))) k in
+      let c = count_by-cons f (h x) (map h (filter p xs)) in let same : cond {A = ℕ} (f (h x)) 1 0 ≡ cond (g x) 1 0 = ap (λ b. cond b 1 0) (a.0.0 k) in omega (arith, ih, d, e, c, same))
+      (λ k. let e : count_by f (map h (filter p (x ∷ xs))) ≡ count_by f (map h (filter p xs)) = ap (λ b. count_by f (map h (cond b (x ∷ filter p xs) (filter p xs)))) k in
+      let none : cond {A = ℕ} (g x) 1 0 ≡ 0 = ap (λ b. cond b 1 0) (a.0.1 k) in omega (arith, ih, d, e, none))

@@ -1,0 +1,12 @@
+pub mod AtPlace
+pub mod Brought
+pub mod Changed
+pub mod Compute
+pub mod Install
+pub mod Network
+pub mod Passing
+pub mod Report
+pub mod Running
+pub mod Send
+pub mod Todo
+pub mod Work
