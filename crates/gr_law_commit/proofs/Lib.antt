@@ -1,0 +1,4 @@
+pub mod Commit
+pub mod Last
+pub mod Next
+pub mod Verdicts
