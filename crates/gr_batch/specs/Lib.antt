@@ -1,4 +1,5 @@
 pub mod Bodies
+pub mod Reading
 pub mod Spelling
 pub mod Stages
 pub mod Telling

@@ -3,16 +3,20 @@
 
 mod batch;
 mod body;
+mod field;
 mod holders;
 mod item;
+pub mod laws;
 mod number;
 mod outcome;
+mod reading;
 mod spelling;
 mod stage;
 
 pub use batch::{Batch, copy_of, stage_of};
 pub use body::{Body, NewValue, Part};
 pub use outcome::{Fate, Outcome};
+pub use reading::decode;
 pub use spelling::encode;
 pub use stage::Stage;
 
@@ -91,6 +95,86 @@ mod tests {
             0x80, 0x80, 0x01, 1, 7, 1,
         ];
         assert_eq!(rt; spelling(alloc, &granted)?.as_slice(), want.as_slice());
+        Ok(())
+    }
+
+    #[test]
+    fn spellings_are_read(rt: HostRuntime) -> Result<(), Fail> {
+        let alloc = rt.alloc();
+        laws::no_spelling_begins_another::<Amount, Amount>();
+        let bytes = [0x02, 0x00, 0x00, 0x00, 0x01, 0x00, 0x01, 0x00, 0x02];
+        let part: Batch<Amount, Amount> = decode(alloc, &bytes)?.ok_or("a part is spelled")?;
+        assert_eq!(rt; (part.serial, part.epoch, part.round), (2, 0, 0));
+        assert_eq!(rt; (part.sender, part.receiver), (1, 0));
+        if let Body::Gather(parts) = &part.body {
+            let want = Part {
+                vertex: 0,
+                acc: Amount(2),
+            };
+            assert_eq!(rt; parts.as_slice(), [want].as_slice());
+        } else {
+            return Err("a part is gathered".into());
+        }
+        let bytes = [
+            0x02, 0x00, 0x00, 0x01, 0x00, 0x01, 0x01, 0x00, 0xf0, 0x93, 0x09, 0x01,
+        ];
+        let value: Batch<Amount, Amount> = decode(alloc, &bytes)?.ok_or("a value is spelled")?;
+        if let Body::Update(values) = &value.body {
+            let want = NewValue {
+                vertex: 0,
+                value: Amount(150000),
+                wake: true,
+            };
+            assert_eq!(rt; values.as_slice(), [want].as_slice());
+        } else {
+            return Err("a value is new".into());
+        }
+        Ok(())
+    }
+
+    #[test]
+    fn other_bytes_are_refused(rt: HostRuntime) -> Result<(), Fail> {
+        let spelled: [&[u8]; 4] = [
+            &[2, 0, 0, 4, 1, 0, 2, 3, 4],
+            &[2, 0, 0, 5, 0, 1, 1, 5, 1, 1, 0, 3, 1, 7, 1],
+            &[2, 0, 0, 5, 0, 1, 1, 5, 1, 1, 0, 3, 0, 1],
+            &[
+                255, 255, 255, 255, 255, 255, 255, 255, 255, 1, 0, 0, 2, 1, 0, 0,
+            ],
+        ];
+        for bytes in spelled {
+            let read: Option<Batch<Amount, Amount>> = decode(rt.alloc(), bytes)?;
+            assert!(rt; read.is_some(), "{bytes:?}");
+        }
+        let refused: [&[u8]; 16] = [
+            // a byte more, a byte less, a number that is spelled longer
+            &[2, 0, 0, 0, 1, 0, 1, 0, 2, 0],
+            &[2, 0, 0, 0, 1, 0, 1, 0],
+            &[0x82, 0, 0, 0, 0, 1, 0, 1, 0, 2],
+            &[2, 0, 0, 1, 0, 1, 1, 0, 0xf0, 0x93, 0x09, 1, 0],
+            &[2, 0, 0, 1, 0, 1, 1, 0, 0xf0, 0x93, 0x09],
+            &[2, 0, 0, 1, 0, 1, 1, 0, 0xf0, 0x93, 0x89, 0, 1],
+            // a serial of 2 ^ 64, a round of 2 ^ 32, no such stage
+            &[
+                128, 128, 128, 128, 128, 128, 128, 128, 128, 2, 0, 0, 2, 1, 0, 0,
+            ],
+            &[2, 0, 128, 128, 128, 128, 16, 2, 1, 0, 0],
+            &[2, 0, 0, 6, 1, 0, 0],
+            // a sender that is the receiver, and one that is no place
+            &[2, 0, 0, 2, 1, 1, 0],
+            &[2, 0, 0, 2, 64, 1, 0],
+            // equal and falling vertices, a mark that is neither 0 nor 1
+            &[2, 0, 0, 4, 1, 0, 2, 3, 3],
+            &[2, 0, 0, 4, 1, 0, 2, 3, 2],
+            &[2, 0, 0, 1, 0, 1, 1, 0, 5, 2],
+            // a master that is not among the holders
+            &[2, 0, 0, 5, 0, 1, 1, 5, 1, 1, 2, 3, 0, 1],
+            &[],
+        ];
+        for bytes in refused {
+            let read: Option<Batch<Amount, Amount>> = decode(rt.alloc(), bytes)?;
+            assert!(rt; read.is_none(), "{bytes:?}");
+        }
         Ok(())
     }
 }
