@@ -102,6 +102,17 @@ module _ (f : ℕ → VertexInfo) (keeps : (v : ℕ) → id_of (f v) ≡ v) wher
       let lk : k < length ns = rw length-map at lt in
       subst P (sym (get_or-map f ns k 0 d lk)) (h (get_or ns k 0))
 
+-- vertices with no edge, made of ids
+module _ (vs : List VertexInfo) (ns : List ℕ) (are : vs ≡ map (vertex_of []) ns) where
+  pub ids-unconnected : ids vs ≡ ns
+  ids-unconnected = ap ids are ∙ ids-made (vertex_of []) (λ v. refl) ns
+
+  pub unconnected-rise : RisesBy (λ (n : ℕ). n) ns → RisesBy id_of vs
+  unconnected-rise rise = subst (RisesBy id_of) (sym are) (made-rise (vertex_of []) (λ v. refl) ns rise)
+
+  pub unconnected-again : vs ≡ map (vertex_of []) (ids vs)
+  unconnected-again = are ∙ ap (map (vertex_of [])) (sym ids-unconnected)
+
 pub degree-le : (p : Edge → Bool) (es : List Edge) (i : ℕ) → count_by p (take i es) ≤ i
 degree-le p es i = omega (arith, count_by-le-length p (take i es), length-take i es)
 

@@ -8,7 +8,26 @@ use gr_base::{Edge, Items, OutOfMemory};
 use std::alloc::Global;
 use std::collections::BTreeSet;
 
-/// The graph of these edges and these vertices, with the degrees counted.
+impl Graph {
+    /// The graph of these edges and the vertices of these ids, with the degrees counted.
+    ///
+    /// The cost is linear in the ids, and in the edges with a logarithm of the ids.
+    pub fn from_edges(alloc: Global, edges: Items<Edge>, ids: &[u32]) -> Result<Graph, OutOfMemory>
+        requires rise { RisesBy (λ n. n) ids.now }
+        requires ends { All (HasEnds ids.now) edges }
+        requires few { length edges < 2 ^ 32 }
+        ensures edges { IfOk result (λ graph. graph.edges ≡ edges) }
+        ensures vertices { IfOk result (λ graph. graph.vertices ≡ map (vertex_of edges) ids.now) }
+    {
+        let mut vertices = Vec::new(alloc);
+        for id in ids {
+            vertices.push(unconnected(*id))?;
+        }
+        Ok(with_degrees(edges, vertices))
+    }
+}
+
+/// The graph of these edges and the vertices of this set, with the degrees counted.
 pub fn graph_of(
     alloc: Global,
     edges: Items<Edge>,
@@ -20,27 +39,38 @@ pub fn graph_of(
     ensures edges { IfOk result (λ graph. graph.edges ≡ edges) }
     ensures vertices { IfOk result (λ graph. graph.vertices ≡ map (vertex_of edges) numbers.now.keys) }
 {
-    let mut vertices = unconnected(alloc, numbers)?;
-    count_degrees(vertices.as_mut_slice(), edges.as_slice());
-    Ok(Graph {
-        edges,
-        vertices: Items::from_vec(vertices),
-    })
-}
-
-// The vertices of these ids, with no edge.
-fn unconnected(alloc: Global, numbers: &BTreeSet<u32>) -> Result<Vec<VertexInfo>, OutOfMemory>
-    ensures { IfOk result (λ vertices. vertices.items ≡ map (vertex_of []) numbers.now.keys) }
-{
     let mut vertices = Vec::new(alloc);
     for id in numbers.iter() {
-        vertices.push(VertexInfo {
-            id: *id,
-            indeg: 0,
-            outdeg: 0,
-        })?;
+        vertices.push(unconnected(*id))?;
     }
-    Ok(vertices)
+    Ok(with_degrees(edges, vertices))
+}
+
+// The vertex of an id, with no edge.
+fn unconnected(id: u32) -> VertexInfo
+    ensures { result ≡ vertex_of [] id }
+{
+    VertexInfo {
+        id,
+        indeg: 0,
+        outdeg: 0,
+    }
+}
+
+// The graph of these edges and of vertices that have none yet.
+fn with_degrees(edges: Items<Edge>, mut vertices: Vec<VertexInfo>) -> Graph
+    requires rise { RisesBy id_of vertices.items }
+    requires none { vertices.items ≡ map (vertex_of []) (ids vertices.items) }
+    requires ends { All (HasEnds (ids vertices.items)) edges }
+    requires few { length edges < 2 ^ 32 }
+    ensures edges { result.edges ≡ edges }
+    ensures vertices { result.vertices ≡ map (vertex_of edges) (ids vertices.items) }
+{
+    count_degrees(vertices.as_mut_slice(), edges.as_slice());
+    Graph {
+        edges,
+        vertices: Items::from_vec(vertices),
+    }
 }
 
 // Adds to the degrees of unconnected vertices those that the edges give them.
