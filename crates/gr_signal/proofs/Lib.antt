@@ -2,5 +2,5 @@ pub mod Chosen
 pub mod Lows
 pub mod Marks
 pub mod Selected
-pub mod Tests
+pub mod Targets
 pub mod Updates

@@ -1,6 +1,6 @@
 use Rattle.std.proofs.Common.{◌≡◌, ◌≤◌, ◌-◌, length, take}
 use Rattle.gr_rules.specs.Round.{vertices_where}
-use Rattle.gr_signal.proofs.Tests.{is_called}
+use Rattle.gr_signal.proofs.Targets.{is_called}
 use Rattle.gr_signal.proofs.signal.calls.Given as goal
 
 abbrev pub invariant-loop-copy : goal.invariant-loop-copy

@@ -5,7 +5,7 @@ use Rattle.gr_base.specs.Rising.{RisesBy}
 use Rattle.gr_rules.specs.Round.{vertices_where}
 use Rattle.gr_signal.proofs.Chosen.{chosen-yes, chosen-no}
 use Rattle.gr_signal.proofs.Selected.{vertex, vertices-rise}
-use Rattle.gr_signal.proofs.Tests.{is_signalled, targets-are, targets-signal}
+use Rattle.gr_signal.proofs.Targets.{is_signalled, targets-are, targets-signal}
 use Rattle.gr_signal.proofs.signal.signals.Goals as goal
 use Rattle.gr_signal.proofs.signal.signals.Goals.{then-is_signalled+in_ok-push, else-is_signalled}
 
