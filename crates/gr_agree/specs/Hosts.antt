@@ -16,7 +16,8 @@ use Rattle.gr_view.specs.declared.coordinator.Coordinator.{Coordinator}
 use Rattle.gr_view.specs.Modes.{is_open, is_failed, is_rebuild}
 use Rattle.gr_rules.specs.Rows.{blank_rows}
 use Rattle.gr_cluster.specs.Tables.{Host, effective, effective_arcs}
-use Rattle.gr_cluster.specs.Stages.{stages_of, has_stage, needed}
+use Rattle.gr_rules.specs.Exchange.{needed}
+use Rattle.gr_cluster.specs.Stages.{stages_of, has_stage}
 use Rattle.gr_cluster.specs.Todo.{others}
 use Rattle.gr_agree.specs.Truth.{Truth, rows_at, arcs_at}
 use Rattle.gr_agree.specs.TrueRound.{staged}
@@ -63,7 +64,7 @@ module _ {V A : Type 0} (P : Program V A) (w : RebuildView) (want : ℕ) (t : Tr
     pub not_sent : h.computed ≡ false → h.sent ≡ []
     pub unsent_left : IsTrue h.computed → is_end h.stage ≡ false → IsTrue (list_any (λ q. not (has h.sent q)) (others co p))
     -- each batch that a computed stage needed is in the inbox
-    pub needed : (s : Stage) → IsTrue (has_stage (stages_of co.mode) s) → place_in s < progress h → HasNeeded (others co p) h.epoch h.inbox (needed co.mode s)
+    pub needed : (s : Stage) → IsTrue (has_stage (stages_of co.mode) s) → place_in s < progress h → HasNeeded (others co p) h.epoch h.inbox (needed (is_rebuild co.mode) s)
     -- the pending layer is the stable one with what the computed stages stage
     pub rows : h.pending ≡ pending_rows p (progress h) (is_rebuild co.mode)
     pub arcs : h.pending_arcs ≡ pending_arcs p (progress h) (is_rebuild co.mode)

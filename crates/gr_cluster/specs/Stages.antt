@@ -1,5 +1,5 @@
--- The stages of a mode, and what each needs.
-use Rattle.std.specs.Prelude.{Bool, List, [], ◌∷◌, Option, Some, None, if◌then◌else◌}
+-- The stages of a mode.
+use Rattle.std.specs.Prelude.{Bool, List, [], ◌∷◌, if◌then◌else◌}
 use Rattle.std.specs.List.{list_any}
 use Rattle.gr_batch.specs.declared.stage.Stage.{Stage}
 use Rattle.gr_batch.specs.declared.stage.Stage.TheVariants as stage
@@ -21,13 +21,3 @@ has_stage ss s = list_any (is_stage s) ss
 -- the stage that a place begins an epoch with
 abbrev pub first_stage : Mode → Stage
 first_stage m = if is_rebuild m then stage.Ask else stage.Gather
-
--- the stage whose batches a stage needs
-abbrev pub needed : Mode → Stage → Option Stage
-needed m stage.Gather = None
-needed m stage.Update = Some stage.Gather
-needed m stage.Signal = Some stage.Update
-needed m stage.Call = Some stage.Signal
-needed m stage.Ask = None
-needed m stage.Grant = Some stage.Ask
-needed m stage.End = Some (if is_rebuild m then stage.Grant else stage.Call)

@@ -2,20 +2,21 @@
 use Rattle.std.specs.Prelude.{ℕ, ◌+◌, true, false, not, nat_lt, List, [], ◌∷◌, ◌++◌, Option, Some, None, if◌then◌else◌}
 use Rattle.std.specs.List.{filter}
 use Rattle.gr_base.specs.declared.records.NumberedEdge.{NumberedEdge}
-use Rattle.gr_base.specs.Places.{with_place}
 use Rattle.gr_program.specs.declared.copy.VertexCopy.{VertexCopy}
 use Rattle.gr_program.specs.Program.{Program}
 use Rattle.gr_log.specs.Bytes.{size_of}
 use Rattle.gr_log.specs.Log.{with_records, cut_log}
-use Rattle.gr_batch.specs.Stages.{stage_after, is_end}
 use Rattle.gr_batch.specs.declared.outcome.Outcome.{Outcome}
 use Rattle.gr_batch.specs.declared.outcome.Outcome.TheVariants as outcome
 use Rattle.gr_view.specs.declared.coordinator.Mode.{Mode}
 use Rattle.gr_view.specs.Decisions.{reported}
+use Rattle.gr_rules.specs.Exchange.{Exchange, unsent, computed, sent_to}
+use Rattle.gr_rules.specs.Todo.{Todo}
+use Rattle.gr_rules.specs.AtPlace.{due_count}
 use Rattle.gr_cluster.specs.Tables.{Host, Cluster, log, with_host, with_log}
 use Rattle.gr_cluster.specs.Stages.{first_stage}
-use Rattle.gr_cluster.specs.Todo.{Todo, others, unsent, todo}
-use Rattle.gr_cluster.specs.Place.{staged_rows, staged_arcs, batch_to, due_count, new_records}
+use Rattle.gr_cluster.specs.Todo.{others, todo}
+use Rattle.gr_cluster.specs.Place.{staged_rows, staged_arcs, batch_to, new_records}
 
 module _ {V A : Type 0} where
   -- the pending layer becomes the stable one
@@ -36,19 +37,20 @@ module _ {V A : Type 0} where
     reported = false;
   }
 
-  -- A stage that has batches to send is passed with the last of them.
-  abbrev pub passed_host : Option ℕ → Host V A → Host V A
-  passed_host None h = record h { stage = stage_after h.stage; computed = false; sent = [] }
-  passed_host (Some q) h = h
+  -- the exchange of a host, and the host in another
+  abbrev pub exchange_of : Host V A → Exchange
+  exchange_of h = record { stage = h.stage; computed = h.computed; sent = h.sent }
 
-  -- a stage is computed; where there is no other party it is passed at once, but for the end
-  abbrev pub computed_host : Option ℕ → List (VertexCopy V) → List NumberedEdge → Host V A → Host V A
-  computed_host next rows arcs h =
-      let d = record h { pending = rows; pending_arcs = arcs; computed = true } in if is_end h.stage then d else passed_host next d
+  abbrev pub in_exchange : Exchange → Host V A → Host V A
+  in_exchange x h = record h { stage = x.stage; computed = x.computed; sent = x.sent }
+
+  -- a stage is computed, with what it stages
+  abbrev pub computed_host : List ℕ → List (VertexCopy V) → List NumberedEdge → Host V A → Host V A
+  computed_host others rows arcs h = in_exchange (computed (unsent others []) (exchange_of h)) (record h { pending = rows; pending_arcs = arcs })
 
   -- one batch is sent
   abbrev pub sent_host : List ℕ → ℕ → Host V A → Host V A
-  sent_host others q h = let sent = with_place h.sent q in passed_host (unsent others sent) (record h { sent = sent })
+  sent_host others q h = in_exchange (sent_to others q (exchange_of h)) h
 
   module _ (P : Program V A) where
     unfoldable pub worked : Cluster V A → ℕ → Host V A → Todo → Cluster V A × Outcome V A
@@ -56,8 +58,8 @@ module _ {V A : Type 0} where
     worked c p h Todo.Adopt =
         (with_log p (cut_log (log c p)) (with_host p (Some (adopted_host c.coordinator.epoch c.coordinator.mode h)) c), outcome.Adopted c.coordinator.epoch)
     worked c p h Todo.Compute =
-        let next = unsent (others c.coordinator p) [] in
-        (with_host p (Some (computed_host next (staged_rows P c p h h.stage) (staged_arcs P c p h h.stage) h)) c, outcome.Computed h.stage)
+        let d = computed_host (others c.coordinator p) (staged_rows P c p h h.stage) (staged_arcs P c p h h.stage) h in
+        (with_host p (Some d) c, outcome.Computed h.stage)
     worked c p h (Todo.Send q) = (
       record (with_host p (Some (sent_host (others c.coordinator p) q h)) c) {
         flight = c.flight ++ batch_to P c p h q ∷ [];
@@ -69,7 +71,7 @@ module _ {V A : Type 0} where
         let records = new_records P c p h in
         (with_log p (with_records records (log c p)) (with_host p (Some (record h { appended = true })) c), outcome.Appended (size_of records))
     worked c p h Todo.Report =
-        let due = due_count P c p h in
+        let due = due_count p h.pending in
         (record (with_host p (Some (record h { reported = true })) c) { coordinator = reported c.coordinator p due }, outcome.Ready due)
     worked c p h (Todo.Wait s q) = (c, outcome.Waiting s q)
     worked c p h Todo.Rest = (c, outcome.Idle)

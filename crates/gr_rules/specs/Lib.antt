@@ -1,6 +1,9 @@
+pub mod AtPlace
+pub mod Exchange
 pub mod Grants
 pub mod Inbox
 pub mod Lost
 pub mod Round
 pub mod Rows
 pub mod Taken
+pub mod Todo

@@ -22,7 +22,8 @@ use Rattle.gr_view.specs.Modes.{is_round, is_recovery, is_rebuild, is_failed, is
 use Rattle.gr_view.specs.Decisions.{parties}
 use Rattle.gr_rules.specs.Rows.{blank_rows}
 use Rattle.gr_cluster.specs.Tables.{Host, Cluster, host, is_up, log, effective, effective_arcs, inbox_of, view_of, wanted_in}
-use Rattle.gr_cluster.specs.Stages.{stages_of, has_stage, needed}
+use Rattle.gr_rules.specs.Exchange.{needed}
+use Rattle.gr_cluster.specs.Stages.{stages_of, has_stage}
 use Rattle.gr_cluster.specs.Todo.{others}
 use Rattle.gr_cluster.specs.Step.{step}
 use Rattle.gr_cluster.specs.Runs.{Position, next_event, next_position, is_commit}
@@ -103,7 +104,7 @@ module _ (P : Program ℕ ℕ) where
       && (implies (is_failed co.mode) (progress h == 0)
       && (implies (not h.computed) (length h.sent == 0)
       && (implies (h.computed && not (is_end h.stage)) (list_any (λ q. not (has h.sent q)) (others co p))
-      && (list_all (λ s. implies (nat_lt (place_in s) (progress h)) (has_needed (others co p) h (needed co.mode s))) (stages_of co.mode)
+      && (list_all (λ s. implies (nat_lt (place_in s) (progress h)) (has_needed (others co p) h (needed (is_rebuild co.mode) s))) (stages_of co.mode)
       && (same (rows_numbers h.pending) (rows_numbers (pending_rows P (view_of P c) (wanted_in P c) t p (progress h) rebuild))
       && (same (arcs_numbers h.pending_arcs) (arcs_numbers (pending_arcs P (view_of P c) (wanted_in P c) t p (progress h) rebuild))
       && (same (records_numbers l.appended) (records_numbers (if h.appended then true_records P (view_of P c) (wanted_in P c) t p else []))
