@@ -32,6 +32,12 @@ mod tests {
         }
     }
 
+    fn stage(rows: &mut Rows<Amount>, line: NewValue<Amount>) {
+        if rows.pending(line.vertex).is_some() {
+            take_updates(rows, [line].as_slice());
+        }
+    }
+
     #[test]
     fn woken_vertices_signal_and_call_their_targets(rt: HostRuntime) -> Result<(), Fail> {
         let alloc = rt.alloc();
@@ -52,13 +58,13 @@ mod tests {
             }
         }
         arcs.install();
-        let body = [NewValue {
+        let line = NewValue {
             vertex: 2,
             value: Amount(8),
             wake: true,
-        }];
+        };
         let mut woken = Items::new(alloc);
-        take_woken(alloc, body.as_slice(), &mut woken)?;
+        take_woken(alloc, [line].as_slice(), &mut woken)?;
         let own = signals(alloc, &rows, &arcs, woken.as_slice(), 0)?;
         let other = signals(alloc, &rows, &arcs, woken.as_slice(), 1)?;
         assert_eq!(rt; own.as_slice(), [2, 9].as_slice());
@@ -69,9 +75,7 @@ mod tests {
         assert_eq!(rt; next.as_slice(), [2, 3, 9].as_slice());
         let called = calls(alloc, &rows, next.as_slice(), 1)?;
         assert_eq!(rt; called.as_slice(), [3].as_slice());
-        if rows.pending(2).is_some() {
-            take_updates(&mut rows, body.as_slice());
-        }
+        stage(&mut rows, line);
         take_calls(&mut rows, next.as_slice());
         for (v, value, due) in [(2, 8, true), (3, 5, true), (7, 5, false), (9, 5, true)] {
             assert_eq!(rt; rows.pending(v).map(|c| c.due), Some(due));
