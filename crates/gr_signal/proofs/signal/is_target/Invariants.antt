@@ -1,0 +1,14 @@
+use Rattle.std.proofs.Common.{◌≡◌, ◌≤◌, ◌-◌, false, length, take}
+use Rattle.std.specs.List.{filter, list_any}
+use Rattle.gr_base.specs.Rising.{has}
+use Rattle.gr_rules.specs.Rows.{into}
+use Rattle.gr_signal.proofs.signal.is_target.Given as goal
+
+abbrev pub invariant-loop-edge : goal.invariant-loop-edge
+invariant-loop-edge l = record {
+  within : l.i ≤ length (filter (into l.v) l.arcs.stable);
+  none : list_any (λ e. has l.woken e.edge.src) (take l.i (filter (into l.v) l.arcs.stable)) ≡ false;
+}
+
+abbrev pub decreases-loop-edge : goal.decreases-loop-edge
+decreases-loop-edge l = length (filter (into l.v) l.arcs.stable) - l.i

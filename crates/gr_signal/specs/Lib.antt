@@ -1,0 +1,2 @@
+pub mod LowVertices
+pub mod Signals
