@@ -1,0 +1,2 @@
+//! The law of load.
+#![tactic(auto)]
