@@ -2,6 +2,9 @@ pub mod Any
 pub mod Choices
 pub mod Counts
 pub mod Each
+pub mod Items
+pub mod Maps
+pub mod Numbers
 pub mod Selections
 pub mod Sets
 pub mod Tests

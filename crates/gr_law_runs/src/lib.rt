@@ -1,0 +1,2 @@
+//! The law of runs in which no place fails.
+#![tactic(auto)]
