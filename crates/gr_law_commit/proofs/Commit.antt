@@ -40,7 +40,7 @@ use Rattle.gr_law_commit.proofs.Next.{staged-next, arcs-next, entries-next, stat
 use Rattle.gr_law_commit.proofs.Last.{done-at-last, not-done-before, done-or-running}
 use Rattle.gr_law_commit.proofs.Verdicts.{committing}
 
-not-false : (b : Bool) → not b ≡ false → b ≡ true
+pub not-false : (b : Bool) → not b ≡ false → b ≡ true
 not-false true x = refl
 not-false false x = absurd (let bad : true ≡ false = x in cc)
 

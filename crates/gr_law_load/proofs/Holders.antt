@@ -14,7 +14,8 @@ use Rattle.gr_cut.specs.Cut.{home, is_high, place_at_load}
 use Rattle.gr_copies.specs.Holders.{has_edge_of, needed_holders, more_holders, first_holders}
 use Rattle.gr_lists.proofs.Tests.{by_test}
 use Rattle.gr_lists.proofs.Any.{has-filter}
-use Rattle.gr_law_load.proofs.Ranges.{range-rises, range-below, has-below, each-itself}
+use Rattle.gr_lists.proofs.Numbers.{range-rises}
+use Rattle.gr_law_load.proofs.Ranges.{range-below, has-below, each-itself}
 
 module _ (places theta losses : ℕ) (es : List Edge) (some : 1 ≤ places) (few : places ≤ 64) where
   pub home-below : (v : ℕ) → home places v < places

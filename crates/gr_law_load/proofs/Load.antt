@@ -36,6 +36,7 @@ use Rattle.gr_rules.specs.Rows.{entry, record_of}
 use Rattle.gr_rules.specs.Grants.{records_after}
 use Rattle.gr_cluster.specs.Tables.{Host, Cluster, host, is_up, log, inbox_of, effective, effective_arcs, view_of, wanted_in}
 use Rattle.gr_cluster.specs.Stages.{stages_of, has_stage}
+use Rattle.gr_cluster.specs.GraphIn.{graph_of, graph_in}
 use Rattle.gr_cluster.specs.Load.{Setting, fresh_host, first_value, first_copy, first_rows, first_arcs, first_host, first_log, load}
 use Rattle.gr_agree.specs.Truth.{Truth, edge_list, held, held_at, place_of, arcs_at, true_entry, entries_at, hidden, copy_at, rows_at}
 use Rattle.gr_agree.specs.TrueRound.{active_next, staged}
@@ -47,10 +48,14 @@ use Rattle.gr_agree.specs.Network.{standing, is_shown}
 use Rattle.gr_agree.specs.Agree.{Agree}
 use Rattle.gr_lists.proofs.Tests.{by_test}
 use Rattle.gr_lists.proofs.Counts.{count_by-cons}
+use Rattle.gr_lists.proofs.Items.{items-rising}
+use Rattle.gr_lists.proofs.Maps.{map-rises, rises-map}
+use Rattle.gr_lists.proofs.Numbers.{range-rises}
 use Rattle.gr_lists.proofs.Each.{Each-weaker}
 use Rattle.gr_lists.proofs.Selections.{map-filter-agree}
 use Rattle.gr_law_bodies.proofs.Values.{rows-staged}
-use Rattle.gr_law_load.proofs.Ranges.{range-rises, range-below, has-below, numbered-edges, numbered-numbers, numbered-length, numbered-each, rises-by_keys, map-rises, with_items-rising}
+use Rattle.gr_law_logs.proofs.Logged.{graph-in}
+use Rattle.gr_law_load.proofs.Ranges.{range-below, has-below, numbered-edges, numbered-numbers, numbered-length, numbered-each}
 use Rattle.gr_law_load.proofs.Holders.{home-below, place-below, holders-places, holder-below, home-holds, ends-held}
 
 module _ {V A : Type 0} (P : Program V A) (s : Setting) (es : List Edge) (vs : List ℕ) (IS : IsSetting s) (IG : IsGraph es vs) where
@@ -61,7 +66,7 @@ module _ {V A : Type 0} (P : Program V A) (s : Setting) (es : List Edge) (vs : L
   c = load P s es vs
 
   -- the edges of the state are those of the graph
-  same-edges : edge_list t ≡ es
+  pub same-edges : edge_list t ≡ es
   same-edges = numbered-edges es
 
   value-same : (p v : ℕ) → (if P.forgetful && (outdegree es v == 0) && not ((home s.places v == p) && true) then None else Some (P.start v (indegree es v) (outdegree es v))) ≡ first_value P s es vs p v
@@ -111,7 +116,7 @@ module _ {V A : Type 0} (P : Program V A) (s : Setting) (es : List Edge) (vs : L
   arcs-rise : (p : ℕ) → RisesBy (λ (a : NumberedEdge). a.number) (arcs_at t p)
   unfolding arcs_at
   arcs-rise p = filter-rises (λ (a : NumberedEdge). a.number) (λ a. place_of t a == p) (numbered es)
-      (rises-by_keys (λ (a : NumberedEdge). a.number) (numbered es) (subst (RisesBy (λ q. q)) (sym (numbered-numbers es)) (range-rises 0 (length es))))
+      (rises-map (λ (a : NumberedEdge). a.number) (λ q. q) (numbered es) (subst (RisesBy (λ q. q)) (sym (numbered-numbers es)) (range-rises 0 (length es))))
 
   entries-kept : (rows : List (VertexCopy V)) (arcs : List NumberedEdge) → filter_map entry_of (map record_of rows ++ map item.Kept arcs) ≡ map entry rows
   entries-kept [] [] = refl
@@ -139,14 +144,14 @@ module _ {V A : Type 0} (P : Program V A) (s : Setting) (es : List Edge) (vs : L
   directory-same p =
       ap (λ rs. with_items (λ (e : Entry). e.vertex) (filter_map entry_of rs) []) (records-same p)
       ∙ (ap (λ l. with_items (λ (e : Entry). e.vertex) l []) (entries-kept (map (copy_at P t p) (held_at t p)) (arcs_at t p) ∙ entries-of (held_at t p) p)
-      ∙ with_items-rising (λ (e : Entry). e.vertex) (map (true_entry t) (held_at t p)) (map-rises (λ (e : Entry). e.vertex) (true_entry t) (λ v. v) (λ v. refl) (held_at t p) (rises-held p)))
+      ∙ items-rising (λ (e : Entry). e.vertex) (map (true_entry t) (held_at t p)) (map-rises (true_entry t) (λ (e : Entry). e.vertex) (held_at t p) (rises-held p)))
 
   kept-same : (p : ℕ) → kept_edges (records p) ≡ arcs_at t p
   kept-same p = ap kept_edges (records-same p) ∙ edges-kept (rows_at P t p) (arcs_at t p)
 
   edges-same : (p : ℕ) → edges_in (records p) ≡ arcs_at t p
   unfolding edges_in
-  edges-same p = ap (λ l. with_items (λ (a : NumberedEdge). a.number) l []) (kept-same p) ∙ with_items-rising (λ (a : NumberedEdge). a.number) (arcs_at t p) (arcs-rise p)
+  edges-same p = ap (λ l. with_items (λ (a : NumberedEdge). a.number) l []) (kept-same p) ∙ items-rising (λ (a : NumberedEdge). a.number) (arcs_at t p) (arcs-rise p)
 
   -- the tables at load
   hosts-length : length c.hosts ≡ s.places
@@ -268,7 +273,7 @@ module _ {V A : Type 0} (P : Program V A) (s : Setting) (es : List Edge) (vs : L
           (numbered-each (λ e. (has (first_holders s.places s.theta s.losses es e.src) (place_at_load s.places s.theta es e) ≡ true) × (has (first_holders s.places s.theta s.losses es e.dst) (place_at_load s.places s.theta es e) ≡ true)) es
           (ends-held s.places s.theta s.losses es IS.some_place IS.few_places))
 
-  up-at : (p : ℕ) → p < s.places → is_up c p ≡ true
+  pub up-at : (p : ℕ) → p < s.places → is_up c p ≡ true
   up-at p lt = ap is_some (host-at p lt)
 
   fresh-open : (p : ℕ) → p < s.places → HostOpen P (view_of P c) (wanted_in P c) t co p (fresh_host (first_rows P s es vs p) (first_arcs P s es vs p) 0 0 stage.Gather) (log c p)
@@ -360,3 +365,7 @@ module _ {V A : Type 0} (P : Program V A) (s : Setting) (es : List Edge) (vs : L
       };
     };
   }
+
+  -- its logs say the graph
+  pub load-holds : Agree P t c × (graph_in c ≡ graph_of es vs)
+  load-holds = (load-agrees, graph-in P t c load-agrees ∙ ap (λ l. graph_of l vs) same-edges)

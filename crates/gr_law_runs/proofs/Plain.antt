@@ -1,10 +1,11 @@
 -- What an undisturbed cluster keeps: it agrees with a committed state of the graph, and every place is up and live.
-use Rattle.std.proofs.Common.{◌≡◌, ◌≢◌, ◌<◌, ◌≤◌, ℕ, ◌+◌, List, [], ◌∷◌, Bool, true, false, cond, not, ◌==◌, ◌&&◌, ◌||◌, nat_lt, filter, length, refl, sym, ap, ◌∙◌, subst, arith, Option, Some, None, inl, inr, ◌⊎◌, ⊎_elim, slice_get, remove, set, if◌then◌else◌}
+use Rattle.std.proofs.Common.{◌≡◌, ◌≢◌, ◌<◌, ◌≤◌, ℕ, ◌+◌, List, [], ◌∷◌, Bool, true, false, cond, not, ◌==◌, ◌&&◌, ◌||◌, nat_lt, filter, length, refl, sym, ap, ◌∙◌, subst, arith, Option, Some, None, inl, inr, ◌⊎◌, ⊎_elim, eq-eqb, slice_get, remove, set, if◌then◌else◌}
 use Rattle.std.specs.Prelude.{IsTrue, is_some, is_none, option_map}
 use Rattle.std.specs.List.{AllByRecursion as Each}
-use Rattle.std.proofs.lemmas.Bool.{both_ways}
+use Rattle.std.proofs.lemmas.Bool.{or_left, or_right}
 use Rattle.gr_base.specs.declared.records.Edge.{Edge}
-use Rattle.gr_base.specs.Rising.{has}
+use Rattle.gr_base.specs.Rising.{has, union}
+use Rattle.gr_log.specs.Log.{committed_log}
 use Rattle.gr_program.specs.Program.{Program, ProgramLaws}
 use Rattle.gr_batch.specs.declared.batch.Batch.{Batch}
 use Rattle.gr_sched.specs.declared.event.Event.{Event}
@@ -12,11 +13,12 @@ use Rattle.gr_sched.specs.declared.event.Event.TheVariants as event
 use Rattle.gr_view.specs.declared.coordinator.Coordinator.{Coordinator}
 use Rattle.gr_view.specs.declared.coordinator.Mode.{Mode}
 use Rattle.gr_view.specs.declared.coordinator.Mode.TheVariants as mode
+use Rattle.gr_view.specs.declared.coordinator.Verdict.{Verdict}
 use Rattle.gr_view.specs.declared.coordinator.Verdict.TheVariants as verdict
 use Rattle.gr_view.specs.Modes.{is_over, is_round, is_failed, is_rebuild}
-use Rattle.gr_view.specs.Decisions.{parties, looked_at, unready, commit_unless, verdict_on, at_barrier}
+use Rattle.gr_view.specs.Decisions.{parties, looked_at, unready, rebuild_committed, round_committed, commit_unless, at_barrier}
 use Rattle.gr_rules.specs.Todo.{Todo}
-use Rattle.gr_cluster.specs.Tables.{Host, Cluster, host, is_up, effective}
+use Rattle.gr_cluster.specs.Tables.{Host, Cluster, changed_at, host, is_up, effective}
 use Rattle.gr_cluster.specs.Todo.{todo}
 use Rattle.gr_cluster.specs.Work.{worked, worked_at}
 use Rattle.gr_cluster.specs.Network.{received, delivered, dropped}
@@ -29,10 +31,10 @@ use Rattle.gr_agree.specs.Laws.{effective_rows, IsCommittedSame}
 use Rattle.gr_law_network.specs.Law.{IsKept}
 use Rattle.gr_law_network.proofs.Kept.{kept-same, deliver-kept, drop-kept}
 use Rattle.gr_law_round.proofs.Work.{work-kept}
-use Rattle.gr_law_commit.proofs.Verdicts.{committing}
-use Rattle.gr_law_commit.proofs.Commit.{round-commits}
+use Rattle.gr_law_commit.proofs.Commit.{not-false, commit-kept}
 use Rattle.gr_law_runs.specs.Law.{is_plain, after_events}
-use Rattle.gr_lists.proofs.Tests.{by_test, by_option}
+use Rattle.gr_lists.proofs.Tests.{by_test}
+use Rattle.gr_lists.proofs.Any.{find-none_of}
 
 -- rounds go on, or are done
 abbrev pub is_undisturbed : Mode → Bool
@@ -45,13 +47,13 @@ pub record IsSameCoordinator (c d : Coordinator) : Type 0 where
   pub mode : d.mode ≡ c.mode
   pub limit : d.limit ≡ c.limit
 
-pub record IsUndisturbed {V A : Type 0} (P : Program V A) (es : List Edge) (vs : List ℕ) (limit : ℕ) (c : Cluster V A) : Type 0 where
+pub record IsUndisturbed {V A : Type 0} (P : Program V A) (es : List Edge) (vs : List ℕ) (rounds : ℕ) (c : Cluster V A) : Type 0 where
   pub state : Truth V
   pub agrees : Agree P state c
   pub edges : edge_list state ≡ es
   pub vertices : state.vertices ≡ vs
   pub mode : is_undisturbed c.coordinator.mode ≡ true
-  pub limit : c.coordinator.limit ≡ limit
+  pub limit : c.coordinator.limit ≡ rounds
   pub none_retired : c.coordinator.retired ≡ []
   pub all_up : (p : ℕ) → has (parties c.coordinator) p ≡ true → is_up c p ≡ true
 
@@ -83,9 +85,6 @@ module _ {V A : Type 0} (P : Program V A) (c : Cluster V A) where
       (λ e. rw e (record { mode = refl; limit = refl }))
       (λ e. by_test (is_none (host c b.sender)) (λ k. rw (e, k) (record { mode = refl; limit = refl })) (λ k. rw (e, k) (record { mode = refl; limit = refl })))
 
-  stepped : (e : Event) → ((is_over c.coordinator.mode ≡ true → IsSameCoordinator c.coordinator c.coordinator)) → IsSameCoordinator c.coordinator c.coordinator
-  stepped e f = record { mode = refl; limit = refl }
-
   work-same : (p : ℕ) → IsSameCoordinator c.coordinator (step P c (event.Work p)).0.coordinator
   unfolding step
   work-same p = by_test (is_over c.coordinator.mode)
@@ -111,14 +110,6 @@ no-rebuild mode.Failed u = absurd (let bad : false ≡ true = u in cc)
 no-rebuild mode.Recovering u = absurd (let bad : false ≡ true = u in cc)
 no-rebuild mode.Repairing u = absurd (let bad : false ≡ true = u in cc)
 no-rebuild mode.Lost u = absurd (let bad : false ≡ true = u in cc)
-
-round-of : (m : Mode) → is_undisturbed m ≡ true → is_over m ≡ false → is_round m ≡ true
-round-of mode.Running u o = refl
-round-of mode.Done u o = absurd (let bad : true ≡ false = o in cc)
-round-of mode.Failed u o = absurd (let bad : false ≡ true = u in cc)
-round-of mode.Recovering u o = absurd (let bad : false ≡ true = u in cc)
-round-of mode.Repairing u o = absurd (let bad : false ≡ true = u in cc)
-round-of mode.Lost u o = absurd (let bad : false ≡ true = u in cc)
 
 some-of : {X Y : Type 0} (f : X → Y) (o : Option X) → is_some (option_map f o) ≡ is_some o
 some-of f None = refl
@@ -152,16 +143,78 @@ module _ {V A : Type 0} (P : Program V A) (L : ProgramLaws P) (es : List Edge) (
     looks-at-parties : looked_at c.coordinator ≡ parties c.coordinator
     looks-at-parties = ap (λ b. if b then c.coordinator.live else parties c.coordinator) (no-rebuild c.coordinator.mode U.mode).1
 
+    running : is_over c.coordinator.mode ≡ false → c.coordinator.mode ≡ mode.Running
+    running o = of c.coordinator.mode U.mode o
+      where
+        of : (m : Mode) → is_undisturbed m ≡ true → is_over m ≡ false → m ≡ mode.Running
+        of mode.Running u o = refl
+        of mode.Done u o = absurd (let bad : true ≡ false = o in cc)
+        of mode.Failed u o = absurd (let bad : false ≡ true = u in cc)
+        of mode.Recovering u o = absurd (let bad : false ≡ true = u in cc)
+        of mode.Repairing u o = absurd (let bad : false ≡ true = u in cc)
+        of mode.Lost u o = absurd (let bad : false ≡ true = u in cc)
+
+    -- the cluster after the commit of a round
+    abbrev next_cluster : Cluster V A
+    next_cluster = with_coordinator (round_committed c.coordinator) c
+
+    next-undisturbed : is_over c.coordinator.mode ≡ false → unready c.coordinator ≡ None → IsUndisturbed P es vs limit next_cluster
+    next-undisturbed o none = record {
+      state = next P U.state;
+      agrees = commit-kept P U.state c L U.agrees (running o) U.all_up (λ p m. not-false (has c.coordinator.ready p) (find-none_of (λ q. not (has c.coordinator.ready q)) (parties c.coordinator) p none m));
+      edges = U.edges;
+      vertices = U.vertices;
+      mode = done-or-on ((c.coordinator.due == 0) || (c.coordinator.round + 1 == c.coordinator.limit));
+      limit = U.limit;
+      none_retired = U.none_retired;
+      all_up = U.all_up;
+    }
+      where
+        done-or-on : (b : Bool) → is_undisturbed (if b then mode.Done else mode.Running) ≡ true
+        done-or-on true = refl
+        done-or-on false = refl
+
+    committed-or-not : is_over c.coordinator.mode ≡ false → (u : Option ℕ) → unready c.coordinator ≡ u
+        → IsUndisturbed P es vs limit (after_verdict c [] (commit_unless c.coordinator u).0 (commit_unless c.coordinator u).1).0
+    committed-or-not o (Some p) is = U
+    committed-or-not o None is =
+        let no = (no-rebuild c.coordinator.mode U.mode).0 in
+        subst (IsUndisturbed P es vs limit)
+        (λ i. with_coordinator (if sym no i then rebuild_committed c.coordinator else round_committed c.coordinator) (if sym no i then record c { logs = changed_at (parties c.coordinator) (λ _. committed_log) c.logs } else c))
+        (next-undisturbed o is)
+
+    barred-is : is_over c.coordinator.mode ≡ false → barred c ≡ after_verdict c [] (commit_unless c.coordinator (unready c.coordinator)).0 (commit_unless c.coordinator (unready c.coordinator)).1
+    unfolding barred at_barrier
+    barred-is o =
+        ap (λ ps. after_verdict c ps (at_barrier c.coordinator ps).0 (at_barrier c.coordinator ps).1) (ap (down_among c) looks-at-parties ∙ nobody-down)
+        ∙ (ap (λ b. after_verdict c [] (decided b).0 (decided b).1) o ∙ ap (λ b. after_verdict c [] (unfailed b).0 (unfailed b).1) (no-rebuild c.coordinator.mode U.mode).1)
+      where
+        unfailed : Bool → Coordinator × Verdict
+        unfailed b = if b then (c.coordinator, verdict.Idle) else commit_unless c.coordinator (unready c.coordinator)
+
+        decided : Bool → Coordinator × Verdict
+        decided b = if b then (c.coordinator, verdict.Idle) else unfailed (is_failed c.coordinator.mode)
+
     -- a barrier commits a round, or changes nothing
     barrier-undisturbed : IsUndisturbed P es vs limit (step P c event.Barrier).0
     unfolding step
     barrier-undisturbed = by_test (is_over c.coordinator.mode)
         (λ o. rw o U)
         (λ o. rw o (subst (λ r. IsUndisturbed P es vs limit r.0) (sym (barred-is o)) (committed-or-not o (unready c.coordinator) refl)))
-      where
-        barred-is : is_over c.coordinator.mode ≡ false → barred c ≡ after_verdict c [] (commit_unless c.coordinator (unready c.coordinator)).0 (commit_unless c.coordinator (unready c.coordinator)).1
-        barred-is o = {! !}
 
-        committed-or-not : is_over c.coordinator.mode ≡ false → (u : Option ℕ) → unready c.coordinator ≡ u
-            → IsUndisturbed P es vs limit (after_verdict c [] (commit_unless c.coordinator u).0 (commit_unless c.coordinator u).1).0
-        committed-or-not o u is = {! !}
+    no-rebuild-here : is_rebuild c.coordinator.mode ≡ false
+    no-rebuild-here = (no-rebuild c.coordinator.mode U.mode).0
+
+    pub step-undisturbed : (e : Event) → IsTrue (is_plain e) → IsUndisturbed P es vs limit (step P c e).0
+    step-undisturbed (event.Work p) y = kept-undisturbed (step P c (event.Work p)).0 (work-kept P L U.state c U.agrees no-rebuild-here p) (work-same P c p)
+    step-undisturbed (event.Deliver i) y = kept-undisturbed (step P c (event.Deliver i)).0 (deliver-kept P U.state c U.agrees i) (deliver-same P c i)
+    step-undisturbed (event.Discarded i) y = kept-undisturbed (step P c (event.Discarded i)).0 (drop-kept P U.state c U.agrees i) (drop-same P c i)
+    step-undisturbed event.Barrier y = barrier-undisturbed
+    step-undisturbed (event.Crash p n) y = absurd (let bad : false ≡ true = y in cc)
+    step-undisturbed (event.Recover ps) y = absurd (let bad : false ≡ true = y in cc)
+    step-undisturbed event.Repair y = absurd (let bad : false ≡ true = y in cc)
+    step-undisturbed event.Discard y = absurd (let bad : false ≡ true = y in cc)
+
+  pub run-undisturbed : (events : List Event) → Each (λ e. IsTrue (is_plain e)) events → (c : Cluster V A) → IsUndisturbed P es vs limit c → IsUndisturbed P es vs limit (after_events P events c)
+  run-undisturbed [] h c U = U
+  run-undisturbed (e ∷ events) h c U = run-undisturbed events h.1 (step P c e).0 (step-undisturbed c U e h.0)
