@@ -1,7 +1,7 @@
 -- The parts of a Gather body.
-use Rattle.std.proofs.Common.{◌≡◌, ◌∙◌, ℕ, Bool, true, false, cond, IsTrue, List, Option, Some, None, ◌&&◌, refl, sym, ap, subst}
+use Rattle.std.proofs.Common.{◌≡◌, ◌∙◌, ℕ, Bool, true, false, cond, IsTrue, List, Some, None, ◌&&◌, refl, sym, ap, subst}
 use Rattle.std.specs.Prelude.{IsSomeAnd, ◌==◌}
-use Rattle.std.specs.List.{All, list_any, filter_map}
+use Rattle.std.specs.List.{All, list_any}
 use Rattle.gr_base.specs.declared.records.NumberedEdge.{NumberedEdge}
 use Rattle.gr_base.specs.Rising.{RisesBy}
 use Rattle.gr_program.specs.declared.copy.VertexCopy.{VertexCopy}
@@ -44,5 +44,5 @@ module _ {V A : Type 0} (P : Program V A) (theta q : ℕ) (rows : List (VertexCo
   unfolding gather_body
   gather_body-high r =
       All-filter_map (gather_line P theta q rows arcs) (λ c. row rows c.vertex ≡ Some c) (λ x. IsSomeAnd (row rows x.vertex) (λ c. IsTrue (is_due_high theta c)))
-          (λ c x at e. subst (λ o. IsSomeAnd o (λ (k : VertexCopy V). IsTrue (is_due_high theta k))) (sym (ap (row rows) (line-vertex c x e) ∙ at)) (line-due_high c x e))
-          rows (find-each (λ (c : VertexCopy V). c.vertex) rows r)
+      (λ c x at e. subst (λ o. IsSomeAnd o (λ (k : VertexCopy V). IsTrue (is_due_high theta k))) (sym (ap (row rows) (line-vertex c x e) ∙ at)) (line-due_high c x e))
+      rows (find-each (λ (c : VertexCopy V). c.vertex) rows r)

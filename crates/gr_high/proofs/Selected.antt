@@ -1,5 +1,5 @@
 -- What holds of all that is selected from a list.
-use Rattle.std.proofs.Common.{◌≡◌, ◌<◌, ◌≤◌, ◌∙◌, ℕ, zero, suc, Bool, true, false, cond, List, [], ◌∷◌, length, get_or, eqb, Option, Some, None, refl, ap, sym, subst, ltb, arith}
+use Rattle.std.proofs.Common.{◌≡◌, ◌<◌, ◌≤◌, ◌∙◌, ℕ, zero, suc, Bool, true, false, cond, List, [], ◌∷◌, length, get_or, eqb, Option, Some, None, refl, sym, subst, ltb, arith}
 use Rattle.std.specs.List.{All, find, filter_map, cons_option, prefix_len}
 use Rattle.std.proofs.lemmas.Bool.{eq-eqb, ne_eqb, cond-true, cond-false}
 use Rattle.std.proofs.lemmas.List.Elements.{All-cons}
@@ -26,8 +26,8 @@ module _ {X Y : Type 0} (h : X → Option Y) where
   filter_map-rises key number same [] r = λ i j d lt l. absurd (omega arith)
   filter_map-rises key number same (x ∷ xs) r =
       put-rises number (h x) (filter_map h xs)
-          (λ y e. All-filter_map (λ z. key x < key z) (λ z. number y < number z) (λ z w lt q. omega (arith, lt, same x y e, same z w q)) xs (rises-head key x xs r))
-          (filter_map-rises key number same xs (rises-tail key x xs r))
+      (λ y e. All-filter_map (λ z. key x < key z) (λ z. number y < number z) (λ z w lt q. omega (arith, lt, same x y e, same z w q)) xs (rises-head key x xs r))
+      (filter_map-rises key number same xs (rises-tail key x xs r))
 
 -- in a rising list each element is the one of its number
 pub find-each : {X : Type 0} (key : X → ℕ) (xs : List X) → RisesBy key xs → (k : ℕ) (d : X) → k < length xs → find (λ y. eqb (key y) (key (get_or xs k d))) xs ≡ Some (get_or xs k d)

@@ -35,9 +35,11 @@ module _ {V : Type 0} where
       head : (b : Bool) → has (vertices_where t xs) x.vertex ≡ false → has (map vertex_of (cond b (x ∷ filter t xs) (filter t xs))) x.vertex ≡ b
       head true none = ap (λ b. b || has (vertices_where t xs) x.vertex) (eq-eqb x.vertex x.vertex refl)
       head false none = none
+
       later : (b : Bool) (c : VertexCopy V) → x.vertex < c.vertex → has (vertices_where t xs) c.vertex ≡ t c → has (map vertex_of (cond b (x ∷ filter t xs) (filter t xs))) c.vertex ≡ t c
       later true c lt e = ap (λ b. b || has (vertices_where t xs) c.vertex) (ne_eqb x.vertex c.vertex (λ q. omega arith)) ∙ e
       later false c lt e = e
+
       from : All (λ c. has (vertices_where t xs) c.vertex ≡ t c) xs → has (vertices_where t xs) x.vertex ≡ false → All (λ c. x.vertex < c.vertex) xs → All (λ c. has (vertices_where t (x ∷ xs)) c.vertex ≡ t c) (x ∷ xs)
       from rest none above zero d l = head (t x) none
       from rest none above (suc k) d l = later (t x) (get_or xs k d) (above k d (omega arith)) (rest k d (omega arith))

@@ -42,6 +42,7 @@ no-member p (x ∷ xs) h = elim (cases_Bool (eqb x p)) [
   where
     stands : eqb x p ≡ true → has (x ∷ xs) p ≡ false → ⊥
     stands on h = true≢false (rw on at h)
+
     apart : eqb x p ≡ false → All (λ q. eqb q p ≡ false) xs → All (λ q. eqb q p ≡ false) (x ∷ xs)
     apart off later zero d l = off
     apart off later (suc k) d l = later k d (omega arith)
@@ -74,6 +75,7 @@ passed-on p (x ∷ xs) r h =
     from-head : x ≡ p → All (λ y. x < y) xs → All (λ y. p ≤ y) (x ∷ xs)
     from-head same above zero d l = omega arith
     from-head same above (suc k) d l = let q = above k d (omega arith) in omega arith
+
     past : p < x → All (λ y. x < y) xs → has (x ∷ xs) p ≡ true → ⊥
     past gt above h =
         let off : eqb x p ≡ false = ne_eqb x p (λ e. omega arith) in

@@ -74,7 +74,7 @@ module _ {V A : Type 0} (inbox : List (Batch V A)) (e : ℕ) (s : Stage) where
   fits-one Q (x ∷ xs) p a h =
       let b = subst (All Q) (bodies-cons x xs) a in
       elim (cases_Bool (eqb x p)) [
-        | inl on ↦ subst (All Q) (sym (bodies-one p) ) (subst (λ n. All Q (of_one n)) (eqb-true x p on) (All-left Q (of_one x) (bodies inbox e s xs) b))
+        | inl on ↦ subst (All Q) (sym (bodies-one p)) (subst (λ n. All Q (of_one n)) (eqb-true x p on) (All-left Q (of_one x) (bodies inbox e s xs) b))
         | inr off ↦ fits-one Q xs p (All-right Q (of_one x) (bodies inbox e s xs) b) (rw off at h)
       ]
 
@@ -96,6 +96,7 @@ module _ {V A : Type 0} (inbox : List (Batch V A)) (e : ℕ) (s : Stage) where
       one : (b : Batch V A) → Q b.body → All Q (b.body ∷ [])
       one b q zero d l = q
       one b q (suc k) d l = absurd (omega arith)
+
       at : (o : Option (Batch V A)) → find (is_of x e s) inbox ≡ o → All Q (of_one x)
       at None is = subst (λ o. All Q (map (λ (b : Batch V A). b.body) (elim o [ None ↦ [] | Some b ↦ b ∷ [] ]))) (sym is) (λ k d l. absurd (omega arith))
       at (Some b) is = subst (λ o. All Q (map (λ (b : Batch V A). b.body) (elim o [ None ↦ [] | Some b ↦ b ∷ [] ]))) (sym is) (one b (found-fits (λ b. Q b.body) (is_of x e s) inbox a b is))

@@ -30,7 +30,7 @@ module _ {V : Type 0} where
   values-append xs ys [] = refl
   values-append xs ys (c ∷ cs) =
       let one = ap (λ o. with_value o c) (find-append (λ n. eqb n.vertex c.vertex) xs ys) ∙ either-value (new_for c.vertex xs) (new_for c.vertex ys) c
-          ∙ ap (λ v. with_value (new_for v xs) (with_value (new_for c.vertex ys) c)) (sym (kept-vertex (new_for c.vertex ys) c)) in
+      ∙ ap (λ v. with_value (new_for v xs) (with_value (new_for c.vertex ys) c)) (sym (kept-vertex (new_for c.vertex ys) c)) in
       ap (λ k. k ∷ with_values (xs ++ ys) cs) one ∙ ap (λ l. with_value (new_for (with_value (new_for c.vertex ys) c).vertex xs) (with_value (new_for c.vertex ys) c) ∷ l) (values-append xs ys cs)
 
   pub values-nil : (rows : List (VertexCopy V)) → with_values [] rows ≡ rows
@@ -73,6 +73,7 @@ module _ {V : Type 0} where
         both : All R (chosen t f xs) → All R (f x ∷ chosen t f xs)
         both rest zero d l = a 0 x (omega arith)
         both rest (suc k) d l = rest k d (omega arith)
+
         at : (b : Bool) → All R (chosen t f xs) → All R (cons_option (cond b (Some (f x)) None) (chosen t f xs))
         at true rest = both rest
         at false rest = rest

@@ -58,11 +58,7 @@ pub(crate) fn signals_from<V: Datum, A: Datum>(
 }
 
 /// The vertices that a party has called, none where its batch is not there.
-pub(crate) fn calls_from<V: Datum, A: Datum>(
-    inbox: &Inbox<V, A>,
-    sender: u8,
-    epoch: u64,
-) -> &[u32]
+pub(crate) fn calls_from<V: Datum, A: Datum>(inbox: &Inbox<V, A>, sender: u8, epoch: u64) -> &[u32]
     ensures { result.now ≡ flat_map calls_of (bodies inbox.now epoch Stage.Call (sender ∷ [])) }
 {
     match inbox.find(sender, epoch, Stage::Call) {

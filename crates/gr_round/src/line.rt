@@ -73,12 +73,7 @@ impl PlaceRound {
     }
 
     /// Whether the place has something to do: it neither waits for a batch nor rests. It takes no memory.
-    pub fn can_act<V: Datum, A: Datum>(
-        &self,
-        me: u8,
-        view: &RoundView,
-        inbox: &Inbox<V, A>,
-    ) -> bool
+    pub fn can_act<V: Datum, A: Datum>(&self, me: u8, view: &RoundView, inbox: &Inbox<V, A>) -> bool
         ensures { result ≡ is_act (next_at me view.now inbox.now self.now) }
     {
         match self.next_step(me, view, inbox) {

@@ -1,5 +1,4 @@
 use Rattle.std.proofs.Common.{IsTrue, eqb}
-use Rattle.gr_batch.specs.declared.body.Part.{Part}
 use Rattle.gr_high.proofs.Selected.{found-All}
 use Rattle.gr_high.proofs.partial.join_partials.Goals as goal
 

@@ -1,4 +1,4 @@
-use Rattle.std.proofs.Common.{◌≡◌, ◌∙◌, ◌++◌, ◌∷◌, [], IsTrue, take, length, sym, ap, subst, arith}
+use Rattle.std.proofs.Common.{◌∙◌, ◌++◌, ◌∷◌, [], IsTrue, take, sym, ap, subst, arith}
 use Rattle.std.specs.Prelude.{IsSomeAnd}
 use Rattle.std.specs.List.{All, filter_map, cons_option}
 use Rattle.std.proofs.lemmas.List.{take_all, append-nil}
@@ -31,11 +31,11 @@ loop-copy-preserved g c =
             kept = subst (All (λ k. IsTrue (p.is_acc k.acc))) (sym grown) (All-push (λ k. IsTrue (p.is_acc k.acc)) c.loop-copy.parts w.in-Some-part_of.part c.loop-copy.invariant.kept w.in-Some-part_of.ensures.kept);
           }
       | in_default-part_of w ↦ record {
-          within = omega (arith, at.0);
-          parts = w.parts-is ∙ c.loop-copy.invariant.parts ∙ sym (append-nil (filter_map h (take i rows)))
-              ∙ ap (λ o. filter_map h (take i rows) ++ cons_option o []) (w.in_default-part_of.ensures.part ∙ ap h at.1) ∙ sym more;
-          kept = subst (All (λ k. IsTrue (p.is_acc k.acc))) (sym w.parts-is) c.loop-copy.invariant.kept;
-        }
+        within = omega (arith, at.0);
+        parts = w.parts-is ∙ c.loop-copy.invariant.parts ∙ sym (append-nil (filter_map h (take i rows)))
+            ∙ ap (λ o. filter_map h (take i rows) ++ cons_option o []) (w.in_default-part_of.ensures.part ∙ ap h at.1) ∙ sym more;
+        kept = subst (All (λ k. IsTrue (p.is_acc k.acc))) (sym w.parts-is) c.loop-copy.invariant.kept;
+      }
     ]
 
 pub returns-clause-body : goal.returns-clause-body
@@ -48,9 +48,9 @@ returns-clause-body g c =
 pub returns-clause-rise : goal.returns-clause-rise
 returns-clause-rise g c =
     subst (RisesBy (λ x. x.vertex)) (sym (returns-clause-body g c))
-        (gather_body-rises (g.P.VertexProgram.program_of c.args.program.now) c.args.theta c.args.to c.args.rows.now.stable c.args.arcs.now.stable c.at.ensures.rise.stable_rises)
+    (gather_body-rises (g.P.VertexProgram.program_of c.args.program.now) c.args.theta c.args.to c.args.rows.now.stable c.args.arcs.now.stable c.at.ensures.rise.stable_rises)
 
 pub returns-clause-high : goal.returns-clause-high
 returns-clause-high g c =
     subst (All (λ x. IsSomeAnd (row c.args.rows.now.stable x.vertex) (λ k. IsTrue (is_due_high c.args.theta k)))) (sym (returns-clause-body g c))
-        (gather_body-high (g.P.VertexProgram.program_of c.args.program.now) c.args.theta c.args.to c.args.rows.now.stable c.args.arcs.now.stable c.at.ensures.rise.stable_rises)
+    (gather_body-high (g.P.VertexProgram.program_of c.args.program.now) c.args.theta c.args.to c.args.rows.now.stable c.args.arcs.now.stable c.at.ensures.rise.stable_rises)

@@ -32,7 +32,7 @@ pub take_updates-requires-clause-known : goal.take_updates-requires-clause-known
 take_updates-requires-clause-known g c =
     let start = c.args.rows.now in
     let same : map vertex_of c.loop-k.rows.pending ≡ map vertex_of start.stable =
-        ap (λ (l : CopyLayers g.row.V.Denot). map vertex_of l.pending) c.loop-k.invariant.rows ∙ vertices-values _ start.pending ∙ c.requires.pending in
+    ap (λ (l : CopyLayers g.row.V.Denot). map vertex_of l.pending) c.loop-k.invariant.rows ∙ vertices-values _ start.pending ∙ c.requires.pending in
     let fit = fits-one c.args.inbox.now c.args.party.now.epoch stage.Update (UpdateFits start.stable) c.args.party.now.others _ c.requires.updates (sym c.has.ensures.test ∙ c.if-has.true) in
     let R = λ (ns : List (NewValue g.row.V.Denot)). All (λ n. IsSome (row c.loop-k.rows.pending n.vertex)) ns in
     subst R (sym c.values_from.ensures) (items-fit c.args.inbox.now c.args.party.now.epoch stage.Update values_of (UpdateFits start.stable) R (λ k d l. absurd (omega arith))
