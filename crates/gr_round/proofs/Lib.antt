@@ -1,4 +1,5 @@
 pub mod Called
+pub mod Empties
 pub mod Known
 pub mod Others
 pub mod Passed

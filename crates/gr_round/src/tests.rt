@@ -1,4 +1,4 @@
-ghost use Rattle.std.specs.Prelude.{◌≡◌, ◌<◌, ◌^◌, [], ◌∷◌, map, length, IfOk, Some, None};
+ghost use Rattle.std.specs.Prelude.{◌≡◌, ◌<◌, ◌^◌, [], ◌∷◌, map, length, IfOk, Some, None, true};
 ghost use Rattle.std.specs.List.{All};
 ghost use Rattle.gr_rows.specs.Layers.{vertex_of};
 ghost use Rattle.gr_low.specs.Sources.{SourcesReady};
@@ -75,7 +75,7 @@ fn shared(vertex: u32, outdeg: u32) -> VertexCopy<Amount>
     }
 }
 
-// The mirror at place 1 of a vertex that is nobody's source: it holds no value.
+// The mirror at place 1 of a vertex that no edge leaves: it holds no value.
 fn mirror(vertex: u32, indeg: u32) -> VertexCopy<Amount>
     ensures { result ≡ record { vertex = vertex; indeg = indeg; outdeg = 0; master = 0; holders = 0 ∷ 1 ∷ []; value = None; due = true } }
 {
@@ -109,7 +109,7 @@ fn alone(alloc: Global) -> Result<Place, OutOfMemory>
     Ok(Place { rows, arcs })
 }
 
-// Place 1 of two, with two of six edges into vertex 0, and a vertex 7 that is nobody's source.
+// Place 1 of two, with two of six edges into vertex 0, which no edge leaves.
 fn star(alloc: Global) -> Result<Place, OutOfMemory>
     ensures sources { IfOk result (λ p. SourcesReady rank p.rows.stable p.arcs.stable) }
     ensures values { IfOk result (λ p. ValuesFit rank p.rows.stable) }
@@ -118,13 +118,11 @@ fn star(alloc: Global) -> Result<Place, OutOfMemory>
 {
     let mut rows = Rows::new(alloc);
     rows.stage_copy(mirror(0, 6))?;
-    rows.stage_copy(shared(1, 1))?;
-    rows.stage_copy(shared(3, 1))?;
-    rows.stage_copy(shared(7, 0))?;
+    rows.stage_copy(shared(1, 2))?;
     rows.install();
     let mut arcs = Arcs::new(alloc);
     arcs.stage_edge(edge(0, 1, 0))?;
-    arcs.stage_edge(edge(2, 3, 0))?;
+    arcs.stage_edge(edge(2, 1, 0))?;
     arcs.install();
     Ok(Place { rows, arcs })
 }
@@ -157,10 +155,10 @@ fn put_empty(
         receiver: 1,
         body: empty_body(alloc, stage),
     };
-    if inbox.find(sender, 0, stage_of(&batch)).is_some() {
-        return Ok(());
+    match inbox.find(sender, 0, stage_of(&batch)) {
+        Some(_) => Ok(()),
+        None => inbox.put(batch),
     }
-    inbox.put(batch)
 }
 
 fn count(body: &Body<Amount, Amount>) -> usize {
@@ -268,9 +266,11 @@ fn a_place_alone_goes_through_a_round(rt: HostRuntime) -> Result<(), Fail> {
     ];
     assert_eq!(rt; all.as_slice(), want.as_slice());
     for (v, value, due) in [(0, 150000, false), (1, 1850000, true)] {
-        let copy = place.rows.pending(v);
-        assert_eq!(rt; copy.and_then(|c| c.value), Some(Amount(value)));
-        assert_eq!(rt; copy.map(|c| c.due), Some(due));
+        assert_eq!(rt;
+            place.rows.pending(v).and_then(|c| c.value),
+            Some(Amount(value))
+        );
+        assert_eq!(rt; place.rows.pending(v).map(|c| c.due), Some(due));
     }
     Ok(())
 }
@@ -293,7 +293,7 @@ fn parts_and_signals_go_to_the_master_of_a_high_vertex(rt: HostRuntime) -> Resul
             Told::Sent(Stage::Gather, parts),
             Told::Waiting(Stage::Gather, 0),
             Told::Computed(Stage::Update),
-            Told::Sent(Stage::Update, 2),
+            Told::Sent(Stage::Update, 1),
             Told::Waiting(Stage::Update, 0),
             Told::Computed(Stage::Signal),
             Told::Sent(Stage::Signal, 1),
