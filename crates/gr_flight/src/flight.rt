@@ -35,6 +35,13 @@ impl<V: Datum, A: Datum> Flight<V, A> {
         }
     }
 
+    /// How many batches are in flight.
+    pub fn len(&self) -> u32
+        ensures { result ≡ length self.now }
+    {
+        self.batches.len() as u32
+    }
+
     /// Adds a batch at the end.
     ///
     /// # Errors
