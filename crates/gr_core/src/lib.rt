@@ -1,0 +1,10 @@
+//! A cluster of places that run one program together.
+#![tactic(auto)]
+
+mod cluster;
+mod host;
+mod rebuild_line;
+
+pub use cluster::Cluster;
+pub use host::Host;
+pub use rebuild_line::RebuildLine;
