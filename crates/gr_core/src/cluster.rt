@@ -1,11 +1,19 @@
-ghost use Rattle.std.specs.Prelude.{◌≡◌, ◌<◌, ◌≤◌, length, filter};
+ghost use Rattle.std.specs.Prelude.{◌≡◌, ◌<◌, ◌≤◌, length, filter, IfOk};
 ghost use Rattle.gr_base.specs.Places.{below};
+ghost use Rattle.gr_edges.specs.Vertices.{ids};
 ghost use Rattle.gr_cluster.specs.Tables.{is_up};
+ghost use Rattle.gr_cluster.specs.Load.{load};
+ghost use Rattle.gr_core.specs.Loaded.{setting_of};
 ghost use Rattle.gr_core.specs.Tables as tables;
 
 use crate::host::Host;
-use gr_base::PlaceSet;
+use crate::load::first_places;
+use gr_base::{OutOfMemory, PlaceSet};
+use gr_copies::first_holders;
+use gr_cut::cut;
+use gr_edges::Graph;
 use gr_flight::Flight;
+use gr_job::Job;
 use gr_log::EdgeLog;
 use gr_program::{VertexCopy, VertexProgram};
 use gr_view::{Coordinator, Mode};
@@ -41,6 +49,40 @@ impl<P: VertexProgram> Model for Cluster<P> {
 }
 
 impl<P: VertexProgram> Cluster<P> {
+    /// The cluster before the first round: the graph is cut over the places of the job, and each vertex has its copies
+    /// where its edges stand and where the losses of the job ask for more. All logs are committed.
+    ///
+    /// The one error is that memory ran out. In time linear in the edges and in the product of the places and the
+    /// vertices, with a logarithm in the vertices for each edge.
+    pub fn load(
+        alloc: Global,
+        graph: &Graph,
+        job: &Job,
+        program: P,
+    ) -> Result<Cluster<P>, OutOfMemory>
+        requires edges { length graph.now.edges ≤ 4194304 }
+        requires vertices { length graph.now.vertices ≤ 1048576 }
+        ensures { IfOk result (λ c. c ≡ record { program = program; cluster = load (P.program_of program) (setting_of job.now) graph.now.edges (ids graph.now.vertices) }) }
+    {
+        let cut = cut(alloc, graph, job.places, job.theta)?;
+        let directory = first_holders(alloc, graph, &cut, job.places, job.losses)?;
+        let (hosts, logs) =
+            first_places(alloc, graph, job, &program, directory.as_slice(), &cut)?;
+        let any_vertex = graph.vertex_count() > 0;
+        Ok(Cluster {
+            alloc,
+            hosts,
+            logs,
+            flight: Flight::new(alloc),
+            serial: 0,
+            coordinator: Coordinator::new(job.places, job.spares, job.rounds, any_vertex),
+            places: job.places,
+            losses: job.losses,
+            theta: job.theta,
+            program,
+        })
+    }
+
     /// How many places there are.
     pub fn places(&self) -> u8
         ensures count { result ≡ self.now.cluster.places }

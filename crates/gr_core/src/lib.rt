@@ -3,6 +3,7 @@
 
 mod cluster;
 mod host;
+mod load;
 mod rebuild_line;
 
 pub use cluster::Cluster;
