@@ -6,6 +6,8 @@ ghost use Rattle.gr_cluster.specs.Load.{load};
 ghost use Rattle.gr_core.specs.Loaded.{setting_of};
 ghost use Rattle.gr_core.specs.Tables as tables;
 
+mod results;
+
 use crate::host::Host;
 use crate::load::first_places;
 use gr_base::{OutOfMemory, PlaceSet};

@@ -3,6 +3,8 @@ ghost use Rattle.gr_batch.specs.declared.stage.Stage.TheVariants as stage;
 ghost use Rattle.gr_cluster.specs.Load.{fresh_host};
 ghost use Rattle.gr_core.specs.Tables.{copy_in};
 
+mod values;
+
 use crate::rebuild_line::RebuildLine;
 use gr_arcs::Arcs;
 use gr_flight::Inbox;
