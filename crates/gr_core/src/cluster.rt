@@ -64,7 +64,8 @@ impl<P: VertexProgram> Cluster<P> {
         requires vertices { length graph.now.vertices ≤ 1048576 }
         ensures { IfOk result (λ c. c ≡ record { program = program; cluster = load (P.program_of program) (setting_of job.now) graph.now.edges (ids graph.now.vertices) }) }
     {
-        let cut = cut(alloc, graph, job.places, job.theta)?;
+        let theta = job.theta;
+        let cut = cut(alloc, graph, job.places, theta)?;
         let directory = first_holders(alloc, graph, &cut, job.places, job.losses)?;
         let (hosts, logs) =
             first_places(alloc, graph, job, &program, directory.as_slice(), &cut)?;
@@ -78,7 +79,7 @@ impl<P: VertexProgram> Cluster<P> {
             coordinator: Coordinator::new(job.places, job.spares, job.rounds, any_vertex),
             places: job.places,
             losses: job.losses,
-            theta: job.theta,
+            theta,
             program,
         })
     }

@@ -1,4 +1,4 @@
-use Rattle.std.proofs.Common.{◌≡◌, ◌∙◌, ◌<◌, ◌≤◌, ℕ, Bool, length, map, get_or, filter, refl, ap, sym, subst, arith}
+use Rattle.std.proofs.Common.{◌≡◌, ◌∙◌, ◌<◌, ◌≤◌, ℕ, Bool, length, map, take, get_or, filter, refl, ap, sym, subst, arith}
 use Rattle.std.specs.List.{All}
 use Rattle.std.proofs.lemmas.List.{length-map, get_or-map, take_all}
 use Rattle.gr_base.specs.declared.records.Directory.{Directory}
@@ -48,7 +48,7 @@ loop-k-preserved g c =
           let copy : w.copy_at_load.result ≡ f v = w.copy_at_load.ensures s es vs degrees entry ∙ ap f id in
           ap (λ (r : CopyLayers _). r.pending) (w.rows-is ∙ w.in_ok-stage_copy.ensures.ok)
           ∙ ap (with_item vertex_of w.copy_at_load.result) c.loop-k.invariant
-          ∙ ap (λ x. with_item vertex_of x _) copy
+          ∙ ap (λ x. with_item vertex_of x (map f (filter test (take k vs)))) copy
           ∙ chosen-on vertex_of f (λ w. refl) test vs k rise low (sym test_is ∙ w.if-has.true)
       | else-has w ↦
           ap (λ (r : CopyLayers _). r.pending) w.rows-is ∙ c.loop-k.invariant
