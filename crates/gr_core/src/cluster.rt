@@ -7,7 +7,7 @@ ghost use Rattle.gr_core.specs.Loaded.{setting_of};
 ghost use Rattle.gr_core.specs.Tables as tables;
 
 use crate::host::Host;
-use crate::load::first_places;
+use crate::load::{first_places, read_ids};
 use gr_base::{OutOfMemory, PlaceSet};
 use gr_copies::first_holders;
 use gr_cut::cut;
@@ -69,6 +69,7 @@ impl<P: VertexProgram> Cluster<P> {
         let directory = first_holders(alloc, graph, &cut, job.places, job.losses)?;
         let (hosts, logs) =
             first_places(alloc, graph, job, &program, directory.as_slice(), &cut)?;
+        read_ids(graph.vertices.as_slice());
         let any_vertex = graph.vertex_count() > 0;
         Ok(Cluster {
             alloc,
