@@ -25,16 +25,16 @@ use std::marker::Model;
 /// It agrees at all times with some committed state of the graph, its copies and their values.
 #[derive(Drop)]
 pub struct Cluster<P: VertexProgram> {
-    alloc: Global,
-    hosts: Vec<Option<Host<P>>>,
-    logs: Vec<EdgeLog>,
-    flight: Flight<P::Value, P::Acc>,
-    serial: u64,
-    coordinator: Coordinator,
-    places: u8,
-    losses: u8,
-    theta: u32,
-    program: P,
+    pub(crate) alloc: Global,
+    pub(crate) hosts: Vec<Option<Host<P>>>,
+    pub(crate) logs: Vec<EdgeLog>,
+    pub(crate) flight: Flight<P::Value, P::Acc>,
+    pub(crate) serial: u64,
+    pub(crate) coordinator: Coordinator,
+    pub(crate) places: u8,
+    pub(crate) losses: u8,
+    pub(crate) theta: u32,
+    pub(crate) program: P,
 }
 
 impl<P: VertexProgram> Model for Cluster<P> {
