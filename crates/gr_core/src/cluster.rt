@@ -67,8 +67,7 @@ impl<P: VertexProgram> Cluster<P> {
         let theta = job.theta;
         let cut = cut(alloc, graph, job.places, theta)?;
         let directory = first_holders(alloc, graph, &cut, job.places, job.losses)?;
-        let (hosts, logs) =
-            first_places(alloc, graph, job, &program, directory.as_slice(), &cut)?;
+        let (hosts, logs) = first_places(alloc, graph, job, &program, directory.as_slice(), &cut)?;
         read_ids(graph.vertices.as_slice());
         let any_vertex = graph.vertex_count() > 0;
         Ok(Cluster {

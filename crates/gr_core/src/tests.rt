@@ -12,10 +12,7 @@ use std::test::Fail;
 
 fn triangle(alloc: Global) -> Result<Cluster<Shortest>, Fail> {
     let graph = read_graph(alloc, b"0 1\n1 2\n0 2", false)?;
-    let job = read_job(
-        alloc,
-        b"places = 2\nprogram = \"shortest\"\nsource = 0\n",
-    )?;
+    let job = read_job(alloc, b"places = 2\nprogram = \"shortest\"\nsource = 0\n")?;
     Ok(Cluster::load(alloc, &graph, &job, Shortest { source: 0 })?)
 }
 
@@ -36,9 +33,11 @@ fn both_places_hold_each_vertex_of_a_triangle(rt: HostRuntime) -> Result<(), Fai
     assert_eq!(rt; cluster.mode(), Mode::Running);
     assert_eq!(rt; cluster.rounds(), 0);
     let far = u64::MAX;
-    for (vertex, indeg, outdeg, master, length) in
-        [(0, 0, 2, 0, 0), (1, 1, 1, 1, far), (2, 2, 0, 0, far)]
-    {
+    for (vertex, indeg, outdeg, master, length) in [
+        (0, 0, 2, 0, 0),
+        (1, 1, 1, 1, far),
+        (2, 2, 0, 0, far),
+    ] {
         let copy = VertexCopy {
             vertex,
             indeg,
