@@ -23,6 +23,25 @@ fn copy_at(cluster: &Cluster<Shortest>, p: u8, v: u32) -> Option<VertexCopy<Dist
     None
 }
 
+// A copy that both places have.
+fn everywhere(
+    vertex: u32,
+    indeg: u32,
+    outdeg: u32,
+    master: u8,
+    length: u64,
+) -> VertexCopy<Distance> {
+    VertexCopy {
+        vertex,
+        indeg,
+        outdeg,
+        master,
+        holders: PlaceSet::all(2),
+        value: Some(Distance(length)),
+        due: true,
+    }
+}
+
 #[test]
 fn both_places_hold_each_vertex_of_a_triangle(rt: HostRuntime) -> Result<(), Fail> {
     let cluster = triangle(rt.alloc())?;
@@ -38,17 +57,10 @@ fn both_places_hold_each_vertex_of_a_triangle(rt: HostRuntime) -> Result<(), Fai
         (1, 1, 1, 1, far),
         (2, 2, 0, 0, far),
     ] {
-        let copy = VertexCopy {
-            vertex,
-            indeg,
-            outdeg,
-            master,
-            holders: PlaceSet::all(2),
-            value: Some(Distance(length)),
-            due: true,
-        };
-        assert_eq!(rt; copy_at(&cluster, 0, vertex), Some(copy));
-        assert_eq!(rt; copy_at(&cluster, 1, vertex), Some(copy));
+        for p in 0..2 {
+            let copy = everywhere(vertex, indeg, outdeg, master, length);
+            assert_eq!(rt; copy_at(&cluster, p, vertex), Some(copy));
+        }
     }
     assert_eq!(rt; copy_at(&cluster, 0, 3), None);
     Ok(())
