@@ -9,7 +9,7 @@ ghost use Rattle.gr_core.specs.Tables as tables;
 mod results;
 
 use crate::host::Host;
-use crate::load::first_places;
+use crate::load::{first_places, read_ids};
 use gr_base::{OutOfMemory, PlaceSet};
 use gr_copies::first_holders;
 use gr_cut::cut;
@@ -27,16 +27,16 @@ use std::marker::Model;
 /// It agrees at all times with some committed state of the graph, its copies and their values.
 #[derive(Drop)]
 pub struct Cluster<P: VertexProgram> {
-    alloc: Global,
-    hosts: Vec<Option<Host<P>>>,
-    logs: Vec<EdgeLog>,
-    flight: Flight<P::Value, P::Acc>,
-    serial: u64,
-    coordinator: Coordinator,
-    places: u8,
-    losses: u8,
-    theta: u32,
-    program: P,
+    pub(crate) alloc: Global,
+    pub(crate) hosts: Vec<Option<Host<P>>>,
+    pub(crate) logs: Vec<EdgeLog>,
+    pub(crate) flight: Flight<P::Value, P::Acc>,
+    pub(crate) serial: u64,
+    pub(crate) coordinator: Coordinator,
+    pub(crate) places: u8,
+    pub(crate) losses: u8,
+    pub(crate) theta: u32,
+    pub(crate) program: P,
 }
 
 impl<P: VertexProgram> Model for Cluster<P> {
@@ -66,10 +66,11 @@ impl<P: VertexProgram> Cluster<P> {
         requires vertices { length graph.now.vertices ≤ 1048576 }
         ensures { IfOk result (λ c. c ≡ record { program = program; cluster = load (P.program_of program) (setting_of job.now) graph.now.edges (ids graph.now.vertices) }) }
     {
-        let cut = cut(alloc, graph, job.places, job.theta)?;
+        let theta = job.theta;
+        let cut = cut(alloc, graph, job.places, theta)?;
         let directory = first_holders(alloc, graph, &cut, job.places, job.losses)?;
-        let (hosts, logs) =
-            first_places(alloc, graph, job, &program, directory.as_slice(), &cut)?;
+        let (hosts, logs) = first_places(alloc, graph, job, &program, directory.as_slice(), &cut)?;
+        read_ids(graph.vertices.as_slice());
         let any_vertex = graph.vertex_count() > 0;
         Ok(Cluster {
             alloc,
@@ -80,7 +81,7 @@ impl<P: VertexProgram> Cluster<P> {
             coordinator: Coordinator::new(job.places, job.spares, job.rounds, any_vertex),
             places: job.places,
             losses: job.losses,
-            theta: job.theta,
+            theta,
             program,
         })
     }

@@ -18,13 +18,13 @@ use std::marker::Model;
 /// many commits it has installed, and how far it is in its round or its rebuild.
 #[derive(Drop)]
 pub struct Host<P: VertexProgram> {
-    rows: Rows<P::Value>,
-    arcs: Arcs,
-    inbox: Inbox<P::Value, P::Acc>,
-    epoch: u64,
-    installed: u64,
-    round: PlaceRound,
-    rebuild: RebuildLine,
+    pub(crate) rows: Rows<P::Value>,
+    pub(crate) arcs: Arcs,
+    pub(crate) inbox: Inbox<P::Value, P::Acc>,
+    pub(crate) epoch: u64,
+    pub(crate) installed: u64,
+    pub(crate) round: PlaceRound,
+    pub(crate) rebuild: RebuildLine,
 }
 
 impl<P: VertexProgram> Model for Host<P> {

@@ -9,3 +9,6 @@ mod rebuild_line;
 pub use cluster::Cluster;
 pub use host::Host;
 pub use rebuild_line::RebuildLine;
+
+#[cfg(test)]
+mod tests;

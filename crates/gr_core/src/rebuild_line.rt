@@ -7,11 +7,11 @@ use gr_batch::Stage;
 /// How far a place is in a rebuild of copies. In a round it stands at the stage `Gather`, which no rebuild has.
 #[derive(Clone, Copy, Debug, PartialEq, Eq)]
 pub struct RebuildLine {
-    stage: Stage,
-    computed: bool,
-    sent: PlaceSet,
-    appended: bool,
-    reported: bool,
+    pub(crate) stage: Stage,
+    pub(crate) computed: bool,
+    pub(crate) sent: PlaceSet,
+    pub(crate) appended: bool,
+    pub(crate) reported: bool,
 }
 
 impl RebuildLine {

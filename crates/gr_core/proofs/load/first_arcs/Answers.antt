@@ -1,5 +1,5 @@
-use Rattle.std.proofs.Common.{◌≡◌, ◌∙◌, ap, sym, None, arith}
-use Rattle.std.specs.List.{find}
+use Rattle.std.proofs.Common.{◌≡◌, ◌∙◌, ap}
+use Rattle.std.specs.Prelude.{is_some}
 use Rattle.gr_base.specs.Rising.{with_item}
 use Rattle.gr_arcs.specs.Layers.{EdgeLayers, number_of}
 use Rattle.gr_core.proofs.Rising.{with_item-next, find-next}
@@ -7,7 +7,7 @@ use Rattle.gr_core.proofs.load.first_arcs.Goals as goal
 
 pub stage_edge-requires : goal.stage_edge-requires
 stage_edge-requires c =
-    record { fresh = rw c.loop-edge.invariant (find-next number_of c.args.edges.now c.loop-edge.edge-index _ c.requires c.loop-edge-test.true) }
+    record { fresh = rw c.loop-edge.invariant (ap is_some (find-next number_of c.args.edges.now c.loop-edge.edge-index _ c.requires c.loop-edge-test.true)) }
 
 pub loop-edge-preserved : goal.loop-edge-preserved
 loop-edge-preserved c =

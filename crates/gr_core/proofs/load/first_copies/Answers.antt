@@ -1,4 +1,4 @@
-use Rattle.std.proofs.Common.{◌≡◌, ◌∙◌, ◌<◌, ◌≤◌, ℕ, Bool, length, map, get_or, filter, refl, ap, sym, subst, arith}
+use Rattle.std.proofs.Common.{◌≡◌, ◌∙◌, ◌<◌, ◌≤◌, ℕ, Bool, length, map, take, get_or, filter, refl, ap, sym, subst, arith}
 use Rattle.std.specs.List.{All}
 use Rattle.std.proofs.lemmas.List.{length-map, get_or-map, take_all}
 use Rattle.gr_base.specs.declared.records.Directory.{Directory}
@@ -35,20 +35,20 @@ loop-k-preserved g c =
     let id : (get_or ys k none).id ≡ v = ap (λ l. (get_or l k none).id) same ∙ sym (get_or-map id_of xs k none 0 lt) in
     let holders = first_holders job.places job.theta job.losses es in
     let copies : ℕ → Directory = λ w. record { vertex = w; master = home job.places w; holders = holders w } in
-    let entry_is : (d : Directory) → d ≡ get_or c.args.directory.now k d → d ≡ copies v = λ d is. is ∙ ap (λ l. get_or l k d) c.requires.directory ∙ get_or-map copies vs k 0 d low in
+    let entry_is : (d : Directory) → get_or c.args.directory.now k d ≡ copies v = λ d. ap (λ l. get_or l k d) c.requires.directory ∙ get_or-map copies vs k 0 d low in
     let test : ℕ → Bool = λ w. has (holders w) p in
-    let test_is : c.has.result ≡ test v = c.has.ensures.test ∙ ap (λ (d : Directory). has d.holders p) (entry_is c.index-directory-k.result c.index-directory-k.is) in
+    let test_is : c.has.result ≡ test v = c.has.ensures.test ∙ ap (λ (d : Directory). has d.holders p) (entry_is c.index-directory-k.result) in
     let rise : RisesBy (λ w. w) vs = map-rises id_of (λ w. w) xs c.vertex_count-count.ensures.rise in
     let degrees : HasDegrees es (get_or ys k none) = subst (λ l. HasDegrees es (get_or l k none)) (sym same) (c.vertex_count-count.ensures.degrees k none lt) in
     let f = first_copy P s es vs p in
     elim c.if-has.branch [
       | then-has+in_ok-stage_copy w ↦
           let d = w.index-directory-k-then-has.result in
-          let entry : d ≡ copies (get_or ys k none).id = entry_is d w.index-directory-k-then-has.is ∙ sym (ap copies id) in
+          let entry : d ≡ copies (get_or ys k none).id = w.index-directory-k-then-has.is ∙ entry_is d ∙ sym (ap copies id) in
           let copy : w.copy_at_load.result ≡ f v = w.copy_at_load.ensures s es vs degrees entry ∙ ap f id in
           ap (λ (r : CopyLayers _). r.pending) (w.rows-is ∙ w.in_ok-stage_copy.ensures.ok)
           ∙ ap (with_item vertex_of w.copy_at_load.result) c.loop-k.invariant
-          ∙ ap (λ x. with_item vertex_of x _) copy
+          ∙ ap (λ x. with_item vertex_of x (map f (filter test (take k vs)))) copy
           ∙ chosen-on vertex_of f (λ w. refl) test vs k rise low (sym test_is ∙ w.if-has.true)
       | else-has w ↦
           ap (λ (r : CopyLayers _). r.pending) w.rows-is ∙ c.loop-k.invariant
