@@ -22,10 +22,14 @@ loop-copy-preserved g c =
       within = omega (arith, at.0);
       values = elim c.match-mastered_value.branch [
         | in-Some-mastered_value+in_ok-push w ↦
-            w.values-is ∙ w.in_ok-push.ensures.ok ∙ ap (λ l. l ++ w.in-Some-mastered_value.value ∷ []) c.loop-copy.invariant.values
-            ∙ sym (more ∙ ap (λ o. before ++ cons_option o []) (sym one ∙ w.in-Some-mastered_value.is))
-        | in_default-mastered_value w ↦ w.values-is ∙ c.loop-copy.invariant.values
-            ∙ sym (more ∙ ap (λ o. before ++ cons_option o []) (sym one ∙ w.in_default-mastered_value.is) ∙ append-nil before)
+            let v = w.in-Some-mastered_value.value in
+            let told = sym one ∙ w.in-Some-mastered_value.is in
+            w.values-is ∙ w.in_ok-push.ensures.ok ∙ ap (λ l. l ++ v ∷ []) c.loop-copy.invariant.values
+            ∙ sym (more ∙ ap (λ o. before ++ cons_option o []) told)
+        | in_default-mastered_value w ↦
+            let told = sym one ∙ w.in_default-mastered_value.is in
+            w.values-is ∙ c.loop-copy.invariant.values
+            ∙ sym (more ∙ ap (λ o. before ++ cons_option o []) told ∙ append-nil before)
       ];
     }
 
