@@ -30,8 +30,8 @@ fn everywhere(
     outdeg: u32,
     master: u8,
     length: u64,
-) -> VertexCopy<Distance> {
-    VertexCopy {
+) -> Option<VertexCopy<Distance>> {
+    Some(VertexCopy {
         vertex,
         indeg,
         outdeg,
@@ -39,7 +39,7 @@ fn everywhere(
         holders: PlaceSet::all(2),
         value: Some(Distance(length)),
         due: true,
-    }
+    })
 }
 
 #[test]
@@ -58,8 +58,10 @@ fn both_places_hold_each_vertex_of_a_triangle(rt: HostRuntime) -> Result<(), Fai
         (2, 2, 0, 0, far),
     ] {
         for p in 0..2 {
-            let copy = everywhere(vertex, indeg, outdeg, master, length);
-            assert_eq!(rt; copy_at(&cluster, p, vertex), Some(copy));
+            assert_eq!(rt;
+                copy_at(&cluster, p, vertex),
+                everywhere(vertex, indeg, outdeg, master, length)
+            );
         }
     }
     assert_eq!(rt; copy_at(&cluster, 0, 3), None);
