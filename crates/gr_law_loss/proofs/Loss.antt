@@ -1,22 +1,18 @@
 -- A place goes down: what holds of the places that are up still holds.
-use Rattle.std.proofs.Common.{◌≡◌, ◌≢◌, ◌<◌, ◌≤◌, ℕ, ◌+◌, List, [], Bool, true, false, cond, not, ◌==◌, ◌&&◌, refl, sym, ap, ◌∙◌, subst, arith, Option, Some, None, set, length, eq-eqb, ne_eqb}
+use Rattle.std.proofs.Common.{◌≡◌, ◌≢◌, ◌<◌, ◌≤◌, ℕ, Bool, true, false, cond, not, ◌==◌, ◌&&◌, refl, sym, ap, ◌∙◌, subst, arith, Option, Some, None, length, eq-eqb, ne_eqb}
 use Rattle.std.specs.Prelude.{IsTrue, is_some, count_by}
 use Rattle.std.specs.List.{AllByRecursion as Each}
 use Rattle.std.proofs.lemmas.List.{length-set, get_or-set_same, get_or-set_other}
-use Rattle.std.proofs.lemmas.Bool.{and_right, both_ways}
-use Rattle.gr_base.specs.Rising.{has}
-use Rattle.gr_program.specs.Program.{Program, ProgramLaws}
+use Rattle.std.proofs.lemmas.Bool.{and_right}
+use Rattle.gr_program.specs.Program.{Program}
 use Rattle.gr_log.specs.Log.{Log, empty_log, torn_log}
 use Rattle.gr_log.specs.Directory.{directory_in, edges_in, KeepsEachOnce}
 use Rattle.gr_batch.specs.declared.stage.Stage.{Stage}
 use Rattle.gr_batch.specs.Bodies.{is_of}
 use Rattle.gr_batch.specs.declared.outcome.Outcome.{Outcome}
 use Rattle.gr_sched.specs.declared.event.Event.TheVariants as event
-use Rattle.gr_view.specs.declared.coordinator.Mode.{Mode}
 use Rattle.gr_view.specs.declared.coordinator.Mode.TheVariants as mode
 use Rattle.gr_view.specs.Modes.{is_over}
-use Rattle.gr_view.specs.Decisions.{parties}
-use Rattle.gr_rules.specs.Taken.{log_at}
 use Rattle.gr_cluster.specs.Tables.{Host, Cluster, host, is_up, log, inbox_of, with_host, with_log, view_of, wanted_in}
 use Rattle.gr_cluster.specs.Network.{crashed}
 use Rattle.gr_cluster.specs.Step.{step}
