@@ -1,0 +1,11 @@
+pub mod Called
+pub mod Empties
+pub mod Known
+pub mod Others
+pub mod Passed
+pub mod Rounds
+pub mod Selecting
+pub mod Senders
+pub mod Staged
+pub mod Steps
+pub mod Sums

@@ -1,0 +1,60 @@
+-- Selections of copies, as loops make them.
+use Rattle.std.proofs.Common.{◌≡◌, ◌∙◌, ◌<◌, ◌+◌, ℕ, zero, suc, Bool, true, false, cond, List, [], ◌∷◌, ◌++◌, take, length, get_or, Option, Some, None, refl, sym, ap, arith}
+use Rattle.std.specs.Prelude.{◌&&◌, ◌==◌, not}
+use Rattle.std.specs.List.{All, filter_map, cons_option}
+use Rattle.std.proofs.lemmas.List.{append-nil}
+use Rattle.std.proofs.lemmas.List.Elements.{All-cons}
+use Rattle.gr_base.specs.Rising.{RisesBy, has}
+use Rattle.gr_base.specs.declared.records.NumberedEdge.{NumberedEdge}
+use Rattle.gr_base.proofs.Nth.{filter_map-more}
+use Rattle.gr_base.proofs.Rising.{rises-tail, rises-head, rises-cons}
+use Rattle.gr_program.specs.declared.copy.VertexCopy.{VertexCopy}
+use Rattle.gr_program.specs.Program.{Program}
+use Rattle.gr_batch.specs.declared.body.Body.{Body}
+use Rattle.gr_rules.specs.Rows.{is_hidden}
+use Rattle.gr_rules.specs.Round.{new_value, new_values, update_body}
+
+module _ {X Y : Type 0} (t : X → Bool) (f : X → Y) where
+  -- what f gives of the elements that pass
+  abbrev pub chosen : List X → List Y
+  chosen xs = filter_map (λ x. cond (t x) (Some (f x)) None) xs
+
+  pub chosen-yes : (xs : List X) (i : ℕ) (d : X) → i < length xs → t (get_or xs i d) ≡ true → chosen (take (i + 1) xs) ≡ chosen (take i xs) ++ f (get_or xs i d) ∷ []
+  chosen-yes xs i d lt on = filter_map-more (λ x. cond (t x) (Some (f x)) None) xs i d lt ∙ ap (λ b. chosen (take i xs) ++ cons_option (cond b (Some (f (get_or xs i d))) None) []) on
+
+  pub chosen-no : (xs : List X) (i : ℕ) (d : X) → i < length xs → t (get_or xs i d) ≡ false → chosen (take (i + 1) xs) ≡ chosen (take i xs)
+  chosen-no xs i d lt off = filter_map-more (λ x. cond (t x) (Some (f x)) None) xs i d lt ∙ ap (λ b. chosen (take i xs) ++ cons_option (cond b (Some (f (get_or xs i d))) None) []) off ∙ append-nil (chosen (take i xs))
+
+module _ {V : Type 0} where
+  abbrev pub is_own : ℕ → VertexCopy V → Bool
+  is_own p c = c.due && (c.master == p)
+
+  abbrev pub is_updated : ℕ → Bool → ℕ → VertexCopy V → Bool
+  is_updated q forgetful p c = (c.due && (c.master == p)) && (has c.holders q && not (is_hidden forgetful c))
+
+  module _ {A : Type 0} (P : Program V A) (rows : List (VertexCopy V)) (arcs : List NumberedEdge) (gathers : List (Body V A)) where
+    pub own-are : (p : ℕ) → new_values P p rows arcs gathers ≡ chosen (is_own p) (new_value P rows arcs gathers) rows
+    unfolding new_values
+    own-are p = refl
+
+    pub updated-are : (p q : ℕ) → update_body P p q rows arcs gathers ≡ chosen (is_updated q P.forgetful p) (new_value P rows arcs gathers) rows
+    unfolding update_body
+    updated-are p q = refl
+
+-- what keeps the key of each element that it takes rises with them
+module _ {X Y : Type 0} (t : X → Bool) (f : X → Y) (key : X → ℕ) (to : Y → ℕ) where
+  chosen-above : ((x : X) → to (f x) ≡ key x) → (n : ℕ) (xs : List X) → All (λ x. n < key x) xs → All (λ y. n < to y) (chosen t f xs)
+  chosen-above same n [] a = λ k d l. absurd (omega arith)
+  chosen-above same n (x ∷ xs) a = kept (t x) (chosen-above same n xs (λ k d l. a (suc k) d (omega arith)))
+    where
+      kept : (b : Bool) → All (λ y. n < to y) (chosen t f xs) → All (λ y. n < to y) (cons_option (cond b (Some (f x)) None) (chosen t f xs))
+      kept true rest = All-cons (λ y. n < to y) (f x) (chosen t f xs) (let lt = a 0 x (omega arith) in omega (arith, same x)) rest
+      kept false rest = rest
+
+  pub chosen-rises : ((x : X) → to (f x) ≡ key x) → (xs : List X) → RisesBy key xs → RisesBy to (chosen t f xs)
+  chosen-rises same [] r = λ i j d h l. absurd (omega arith)
+  chosen-rises same (x ∷ xs) r = kept (t x) (chosen-rises same xs (rises-tail key x xs r)) (chosen-above same (key x) xs (rises-head key x xs r))
+    where
+      kept : (b : Bool) → RisesBy to (chosen t f xs) → All (λ y. key x < to y) (chosen t f xs) → RisesBy to (cons_option (cond b (Some (f x)) None) (chosen t f xs))
+      kept true rest above = rises-cons to (f x) (chosen t f xs) (λ k d l. let lt = above k d l in omega (arith, same x)) rest
+      kept false rest above = rest

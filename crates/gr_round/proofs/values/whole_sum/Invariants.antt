@@ -1,0 +1,18 @@
+use Rattle.std.proofs.Common.{◌≡◌, ◌<◌, ltb}
+use Rattle.std.specs.Prelude.{IsTrue}
+use Rattle.std.specs.List.{filter}
+use Rattle.gr_base.specs.Places.{IsPlaces}
+use Rattle.gr_batch.specs.declared.stage.Stage.TheVariants as stage
+use Rattle.gr_rules.specs.Inbox.{bodies}
+use Rattle.gr_rules.specs.Round.{own_sum}
+use Rattle.gr_round.proofs.Sums.{joined}
+use Rattle.gr_round.proofs.values.whole_sum.Given as goal
+
+abbrev pub invariant-loop-p : goal.invariant-loop-p
+invariant-loop-p g l =
+    let p = g.P.VertexProgram.program_of l.program in
+    record {
+      places : 0 < l.p → IsPlaces l.party.others;
+      sum : l.sum ≡ joined p l.v (own_sum p l.rows.stable l.arcs.stable l.v) (bodies l.inbox l.party.epoch stage.Gather (filter (λ q. ltb q l.p) l.party.others));
+      kept : IsTrue (p.is_acc l.sum);
+    }

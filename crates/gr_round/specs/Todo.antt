@@ -1,0 +1,38 @@
+-- What a place does next in a round, as its code names it.
+use Rattle.std.specs.Prelude.{◌≡◌, ℕ, Bool, true, false, IsTrue, IsSome, List}
+use Rattle.gr_base.specs.Places.{without_place}
+use Rattle.gr_batch.specs.declared.batch.Batch.{Batch}
+use Rattle.gr_batch.specs.Stages.{is_end}
+use Rattle.gr_rules.specs.Exchange.{Exchange, unsent}
+use Rattle.gr_rules.specs.Todo.{Todo, todo_in_round}
+use Rattle.gr_round.specs.declared.step.Step.{Step}
+use Rattle.gr_round.specs.declared.step.Step.TheVariants as step
+use Rattle.gr_round.specs.declared.view.RoundView.{RoundView}
+use Rattle.gr_round.specs.Line.{RoundLine}
+
+abbrev pub todo_of : Step → Todo
+todo_of step.Compute = Todo.Compute
+todo_of (step.Send q) = Todo.Send q
+todo_of step.Report = Todo.Report
+todo_of (step.Wait s q) = Todo.Wait s q
+todo_of step.Rest = Todo.Rest
+
+-- the place that it sends to, if it sends
+abbrev pub place_to : Step → ℕ
+place_to (step.Send q) = q
+place_to _ = 0
+
+-- a stage other than the end that is computed has a party left to send to
+abbrev pub AwaitsSending : List ℕ → Exchange → Type 0
+AwaitsSending others x = IsTrue x.computed → is_end x.stage ≡ false → IsSome (unsent others x.sent)
+
+-- what the place p does next, by the view, its inbox and its line
+abbrev pub next_at : {V A : Type 0} → ℕ → RoundView → List (Batch V A) → RoundLine → Todo
+next_at p w inbox l = todo_in_round inbox w.epoch (without_place w.parties p) l.exchange l.reported
+
+-- it only tells something: that it waits, rests, or is ready
+abbrev pub is_told : Todo → Bool
+is_told (Todo.Wait s q) = true
+is_told Todo.Report = true
+is_told Todo.Rest = true
+is_told _ = false
