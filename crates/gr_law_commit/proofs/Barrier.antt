@@ -1,10 +1,10 @@
 -- A barrier that neither commits nor finds a crash changes nothing.
-use Rattle.std.proofs.Common.{◌≡◌, ℕ, ◌+◌, List, [], ◌∷◌, true, false, refl, arith, Option, Some, None}
+use Rattle.std.proofs.Common.{◌≡◌, ℕ, List, [], ◌∷◌, true, false, arith}
 use Rattle.gr_program.specs.Program.{Program}
 use Rattle.gr_batch.specs.declared.outcome.Outcome.{Outcome}
 use Rattle.gr_sched.specs.declared.event.Event.TheVariants as event
 use Rattle.gr_view.specs.Modes.{is_over, is_failed}
-use Rattle.gr_view.specs.Decisions.{looked_at, unready, commit_unless, verdict_on, at_barrier}
+use Rattle.gr_view.specs.Decisions.{looked_at, unready, verdict_on, at_barrier}
 use Rattle.gr_cluster.specs.Tables.{Cluster}
 use Rattle.gr_cluster.specs.Step.{down_among, after_verdict, barred, step}
 use Rattle.gr_cluster.specs.Runs.{is_commit}

@@ -1,8 +1,6 @@
 -- What the inbox of a place brings in a round, where its batches of the present epoch are true.
-use Rattle.std.proofs.Common.{◌≡◌, ℕ, ◌+◌, ◌<◌, List, [], ◌∷◌, ◌++◌, Bool, true, false, ◌==◌, map, flat_map, refl, sym, ap, ◌∙◌, subst, arith, Option, Some, None, eqb-true}
-use Rattle.std.specs.Prelude.{IsTrue}
+use Rattle.std.proofs.Common.{◌≡◌, ℕ, List, [], ◌∷◌, ◌++◌, true, map, flat_map, refl, ap, ◌∙◌, subst, arith, Some, None}
 use Rattle.std.specs.List.{AllByRecursion as Each, list_any, find}
-use Rattle.gr_base.specs.Rising.{has}
 use Rattle.gr_program.specs.Program.{Program}
 use Rattle.gr_copies.specs.declared.view.RebuildView.{RebuildView}
 use Rattle.gr_batch.specs.declared.batch.Batch.{Batch}
