@@ -1,6 +1,6 @@
 // A cluster at load.
 use crate::{Cluster, Host, RebuildLine};
-use gr_base::PlaceSet;
+use gr_base::{OutOfMemory, PlaceSet};
 use gr_batch::Stage;
 use gr_edges::read_graph;
 use gr_job::read_job;
@@ -10,8 +10,10 @@ use gr_view::Mode;
 use std::alloc::Global;
 use std::test::Fail;
 
-fn triangle(alloc: Global) -> Result<Cluster<Shortest>, Fail> {
-    let graph = read_graph(alloc, b"0 1\n1 2\n0 2", false)?;
+const TRIANGLE: &[u8] = b"0 1\n1 2\n0 2";
+
+fn loaded(alloc: Global, graph: &[u8]) -> Result<Cluster<Shortest>, Fail> {
+    let graph = read_graph(alloc, graph, false)?;
     let job = read_job(alloc, b"places = 2\nprogram = \"shortest\"\nsource = 0\n")?;
     Ok(Cluster::load(alloc, &graph, &job, Shortest { source: 0 })?)
 }
@@ -44,7 +46,7 @@ fn everywhere(
 
 #[test]
 fn both_places_hold_each_vertex_of_a_triangle(rt: HostRuntime) -> Result<(), Fail> {
-    let cluster = triangle(rt.alloc())?;
+    let cluster = loaded(rt.alloc(), TRIANGLE)?;
     assert_eq!(rt; cluster.places(), 2);
     assert_eq!(rt; cluster.up(), PlaceSet::all(2));
     assert_eq!(rt; cluster.flight_len(), 0);
@@ -68,9 +70,24 @@ fn both_places_hold_each_vertex_of_a_triangle(rt: HostRuntime) -> Result<(), Fai
     Ok(())
 }
 
+// How many values a run has that is done.
+fn result_count(cluster: &Cluster<Shortest>) -> Result<Option<usize>, OutOfMemory> {
+    match cluster.mode() {
+        Mode::Done => Ok(Some(cluster.results()?.len())),
+        _ => Ok(None),
+    }
+}
+
+#[test]
+fn a_graph_without_vertices_is_done_at_load(rt: HostRuntime) -> Result<(), Fail> {
+    assert_eq!(rt; result_count(&loaded(rt.alloc(), TRIANGLE)?)?, None);
+    assert_eq!(rt; result_count(&loaded(rt.alloc(), b"")?)?, Some(0));
+    Ok(())
+}
+
 #[test]
 fn the_types_have_these_fields_and_no_others(rt: HostRuntime) -> Result<(), Fail> {
-    let cluster = triangle(rt.alloc())?;
+    let cluster = loaded(rt.alloc(), TRIANGLE)?;
     let Cluster {
         alloc: _,
         hosts,

@@ -1,11 +1,10 @@
 -- The commit of a round.
-use Rattle.std.proofs.Common.{◌≡◌, ◌≢◌, ℕ, ◌+◌, ◌<◌, ◌≤◌, List, [], ◌∷◌, Bool, true, false, cond, not, ◌==◌, ◌&&◌, ◌||◌, refl, sym, ap, ◌∙◌, subst, arith, Option, Some, None, eq-eqb, eqb-true, ne_eqb, inl, inr, ◌⊎◌, ⊎_elim}
-use Rattle.std.specs.Prelude.{IsTrue, count_by, is_some, if◌then◌else◌}
+use Rattle.std.proofs.Common.{◌≡◌, ◌≢◌, ℕ, ◌+◌, ◌<◌, ◌≤◌, List, [], ◌∷◌, Bool, true, false, cond, not, ◌==◌, ◌&&◌, refl, sym, ap, ◌∙◌, subst, arith, Option, Some, None, eq-eqb, eqb-true, ne_eqb, inr, ◌⊎◌, ⊎_elim}
+use Rattle.std.specs.Prelude.{IsTrue, count_by, if◌then◌else◌}
 use Rattle.std.specs.List.{AllByRecursion as Each, filter}
 use Rattle.std.proofs.lemmas.List.Elements.{All-nil}
-use Rattle.std.proofs.lemmas.Bool.{and_left, and_right, and_parts, both_ways}
+use Rattle.std.proofs.lemmas.Bool.{and_left, and_right, and_parts}
 use Rattle.gr_base.specs.Rising.{has}
-use Rattle.gr_base.specs.Places.{IsPlaces}
 use Rattle.gr_base.proofs.Rising.{rises-nil}
 use Rattle.gr_program.specs.Program.{Program, ProgramLaws}
 use Rattle.gr_program.specs.Rounds.{State, state_after, last_round}
@@ -17,24 +16,23 @@ use Rattle.gr_sched.specs.declared.event.Event.{Event}
 use Rattle.gr_view.specs.declared.coordinator.Coordinator.{Coordinator}
 use Rattle.gr_view.specs.declared.coordinator.Mode.{Mode}
 use Rattle.gr_view.specs.declared.coordinator.Mode.TheVariants as mode
-use Rattle.gr_view.specs.Modes.{is_round, is_rebuild, is_open}
-use Rattle.gr_view.specs.Decisions.{parties, unready, rebuild_committed, round_committed}
-use Rattle.gr_cluster.specs.Tables.{Host, Cluster, changed_at, host, is_up, log, inbox_of, effective, effective_arcs, view_of, wanted_in}
-use Rattle.gr_cluster.specs.Step.{down_among, with_coordinator, with_logs_committed, step}
+use Rattle.gr_view.specs.Modes.{is_round, is_rebuild}
+use Rattle.gr_view.specs.Decisions.{parties, rebuild_committed, round_committed}
+use Rattle.gr_cluster.specs.Tables.{Host, Cluster, changed_at, host, is_up, log, inbox_of, view_of, wanted_in}
+use Rattle.gr_cluster.specs.Step.{with_coordinator, step}
 use Rattle.gr_cluster.specs.Runs.{is_commit}
-use Rattle.gr_agree.specs.Truth.{Truth, edge_list, rows_at, arcs_at, entries_at}
+use Rattle.gr_agree.specs.Truth.{Truth, edge_list}
 use Rattle.gr_agree.specs.TrueRound.{active_next, next, staged}
 use Rattle.gr_agree.specs.Places.{may_have_dead}
-use Rattle.gr_agree.specs.Hosts.{progress, HostHolds, HostOpen, AtEpoch, RebornHolds, pending_rows, pending_arcs}
-use Rattle.gr_agree.specs.Network.{BatchHolds, NetworkHolds, standing, is_shown}
+use Rattle.gr_agree.specs.Hosts.{progress, HostHolds, HostOpen, AtEpoch, pending_rows, pending_arcs}
+use Rattle.gr_agree.specs.Network.{BatchHolds, standing, is_shown}
 use Rattle.gr_agree.specs.Agree.{Agree}
 use Rattle.gr_lists.proofs.Tests.{by_test}
 use Rattle.gr_lists.proofs.Choices.{and_true_right}
-use Rattle.gr_lists.proofs.Each.{Each-weaker, Each-has, Each-always}
+use Rattle.gr_lists.proofs.Each.{Each-weaker, Each-has}
 use Rattle.gr_lists.proofs.Any.{find-none_of, has-filter}
 use Rattle.gr_lists.proofs.Counts.{count_by-cons, count_by-agree}
 use Rattle.gr_law_network.proofs.Kept.{up-party}
-use Rattle.gr_law_round.proofs.Network.{of-parts}
 use Rattle.gr_law_round.proofs.Running.{no-reborn, parties-live, mastered}
 use Rattle.gr_law_commit.proofs.Next.{staged-next, arcs-next, entries-next, state-next, sound-next}
 use Rattle.gr_law_commit.proofs.Last.{done-at-last, not-done-before, done-or-running}

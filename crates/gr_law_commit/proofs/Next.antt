@@ -1,5 +1,5 @@
 -- The committed state after a round, and what the places have staged of it.
-use Rattle.std.proofs.Common.{◌≡◌, ℕ, suc, ◌+◌, arith, List, Bool, true, false, not, ◌&&◌, ◌||◌, ◌==◌, nat_lt, refl, sym, ap, ◌∙◌, Option, Some, None, if◌then◌else◌}
+use Rattle.std.proofs.Common.{◌≡◌, ℕ, suc, ◌+◌, arith, Bool, true, false, not, ◌&&◌, ◌||◌, ◌==◌, refl, ap, ◌∙◌, Option, Some, None, if◌then◌else◌}
 use Rattle.gr_program.specs.Program.{Program}
 use Rattle.gr_program.specs.Rounds.{state_after, after_round}
 use Rattle.gr_agree.specs.Truth.{Truth, edge_list, held, arcs_at, entries_at, hidden, copy_at, rows_at}

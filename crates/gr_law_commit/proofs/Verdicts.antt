@@ -1,5 +1,5 @@
 -- Which events commit: a barrier at which nobody crashed and every party has reported.
-use Rattle.std.proofs.Common.{◌≡◌, ℕ, List, [], ◌∷◌, Bool, true, false, not, refl, sym, ap, ◌∙◌, subst, Option, Some, None}
+use Rattle.std.proofs.Common.{◌≡◌, ℕ, List, [], ◌∷◌, Bool, true, false, refl, sym, ap, ◌∙◌, Option, Some, None}
 use Rattle.std.specs.Prelude.{IsTrue, if◌then◌else◌, is_none, nat_lt, slice_get, length}
 use Rattle.std.proofs.lemmas.Bool.{both_ways}
 use Rattle.gr_program.specs.Program.{Program}
@@ -8,13 +8,12 @@ use Rattle.gr_batch.specs.declared.outcome.Outcome.{Outcome}
 use Rattle.gr_sched.specs.declared.event.Event.{Event}
 use Rattle.gr_sched.specs.declared.event.Event.TheVariants as event
 use Rattle.gr_view.specs.declared.coordinator.Coordinator.{Coordinator}
-use Rattle.gr_view.specs.declared.coordinator.Verdict.{Verdict}
 use Rattle.gr_view.specs.declared.coordinator.Opening.{Opening}
 use Rattle.gr_view.specs.declared.coordinator.Opening.TheVariants as opening
-use Rattle.gr_view.specs.Modes.{is_over, is_failed, is_rebuild, is_recovery}
-use Rattle.gr_view.specs.Decisions.{parties, looked_at, unready, committed, commit_unless, verdict_on, at_barrier, at_recovery, at_repair, at_discard, going_back}
+use Rattle.gr_view.specs.Modes.{is_over, is_failed, is_recovery}
+use Rattle.gr_view.specs.Decisions.{parties, looked_at, unready, committed, verdict_on, at_barrier, at_recovery, at_repair, at_discard, going_back}
 use Rattle.gr_rules.specs.Todo.{Todo}
-use Rattle.gr_cluster.specs.Tables.{Host, Cluster, host, is_up}
+use Rattle.gr_cluster.specs.Tables.{Host, Cluster, host}
 use Rattle.gr_cluster.specs.Todo.{todo}
 use Rattle.gr_cluster.specs.Work.{worked, worked_at}
 use Rattle.gr_cluster.specs.Network.{delivered, dropped, crashed}

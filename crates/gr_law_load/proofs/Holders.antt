@@ -1,7 +1,6 @@
 -- The holders at load: places below the count, with the home and the places of the edges among them.
-use Rattle.std.proofs.Common.{◌≡◌, ◌<◌, ◌≤◌, ℕ, List, [], ◌∷◌, Bool, true, false, cond, ◌==◌, ◌&&◌, ◌||◌, nat_lt, refl, sym, ap, ◌∙◌, subst, arith, eq-eqb, eqb-true, lt-ltb, ltb-true, filter}
-use Rattle.std.specs.Prelude.{◌%◌, IsTrue}
-use Rattle.std.specs.List.{All, AllByRecursion as Each, list_any}
+use Rattle.std.proofs.Common.{◌≡◌, ◌<◌, ◌≤◌, ℕ, List, [], ◌∷◌, true, ◌==◌, ◌&&◌, ◌||◌, refl, sym, ◌∙◌, arith, eq-eqb, lt-ltb, ltb-true}
+use Rattle.std.specs.List.{AllByRecursion as Each, list_any}
 use Rattle.std.proofs.Math.Nat.{mod-lt}
 use Rattle.std.proofs.lemmas.Bool.{and_parts, and_from, or_left, or_right}
 use Rattle.std.proofs.lemmas.List.Elements.{All-filter}

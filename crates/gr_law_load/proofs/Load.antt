@@ -1,8 +1,8 @@
 -- A loaded cluster agrees with the committed state before the first round.
-use Rattle.std.proofs.Common.{◌≡◌, ◌≢◌, ◌<◌, ◌≤◌, ◌^◌, ℕ, zero, suc, ◌+◌, List, [], ◌∷◌, ◌++◌, Bool, true, false, cond, not, ◌==◌, ◌&&◌, ◌||◌, nat_lt, map, filter, filter_map, length, refl, sym, ap, ◌∙◌, subst, arith, Option, Some, None, get_or, inl, inr, ◌⊎◌, lt-ltb, le-ltb, ltb-true, le_refl, ⊎_elim, if◌then◌else◌}
+use Rattle.std.proofs.Common.{◌≡◌, ◌≢◌, ◌<◌, ℕ, ◌+◌, List, [], ◌∷◌, ◌++◌, Bool, true, false, cond, not, ◌==◌, ◌&&◌, ◌||◌, nat_lt, map, filter, filter_map, length, refl, sym, ap, ◌∙◌, subst, arith, Option, Some, None, inl, inr, ◌⊎◌, lt-ltb, le-ltb, ltb-true, le_refl, ⊎_elim, if◌then◌else◌}
 use Rattle.std.specs.Prelude.{IsTrue, is_some, count_by}
-use Rattle.std.specs.List.{All, AllByRecursion as Each, list_any, range_with_len}
-use Rattle.std.proofs.lemmas.Bool.{and_left, and_right, and_parts, both_ways, cases_lt}
+use Rattle.std.specs.List.{AllByRecursion as Each}
+use Rattle.std.proofs.lemmas.Bool.{and_right, cases_lt}
 use Rattle.std.proofs.lemmas.List.{get_or_past}
 use Rattle.std.proofs.lemmas.List.FromFn.{length-map-range_with_len, get_or-map-range_with_len}
 use Rattle.std.proofs.lemmas.List.Elements.{All-nil}
@@ -12,17 +12,16 @@ use Rattle.gr_base.specs.Degrees.{indegree, outdegree}
 use Rattle.gr_base.specs.Rising.{RisesBy, has}
 use Rattle.gr_base.specs.Places.{IsPlaces, below}
 use Rattle.gr_base.proofs.Rising.{rises-nil, filter-rises}
-use Rattle.gr_base.proofs.Union.{union-nil}
 use Rattle.gr_program.specs.declared.copy.VertexCopy.{VertexCopy}
-use Rattle.gr_program.specs.Program.{Program, ProgramLaws}
-use Rattle.gr_program.specs.Rounds.{State, first_state, state_after, IsLastRound, last_round, is_on}
+use Rattle.gr_program.specs.Program.{Program}
+use Rattle.gr_program.specs.Rounds.{first_state, state_after, last_round, is_on}
 use Rattle.gr_program.proofs.LastRound.{last_round-least}
-use Rattle.gr_cut.specs.Cut.{home, is_high, place_at_load, numbered, edges_at_load}
+use Rattle.gr_cut.specs.Cut.{home, is_high, place_at_load, numbered}
 use Rattle.gr_copies.specs.Holders.{first_holders}
 use Rattle.gr_log.specs.declared.record.LogRecord.{LogRecord}
 use Rattle.gr_log.specs.declared.record.LogRecord.TheVariants as item
-use Rattle.gr_log.specs.Log.{Log, empty_log, log_of}
-use Rattle.gr_log.specs.Directory.{Entry, held_record, entry_of, edge_of, with_items, directory_in, kept_edges, edges_in, KeepsEachOnce}
+use Rattle.gr_log.specs.Log.{Log, empty_log}
+use Rattle.gr_log.specs.Directory.{Entry, entry_of, with_items, directory_in, kept_edges, edges_in}
 use Rattle.gr_batch.specs.declared.stage.Stage.{Stage}
 use Rattle.gr_batch.specs.declared.stage.Stage.TheVariants as stage
 use Rattle.gr_batch.specs.Stages.{place_in, is_stage, is_end}
@@ -30,33 +29,31 @@ use Rattle.gr_batch.specs.Bodies.{is_of}
 use Rattle.gr_view.specs.declared.coordinator.Mode.{Mode}
 use Rattle.gr_view.specs.declared.coordinator.Mode.TheVariants as mode
 use Rattle.gr_view.specs.declared.coordinator.Coordinator.{Coordinator}
-use Rattle.gr_view.specs.Modes.{is_open, is_round, is_rebuild, is_failed}
-use Rattle.gr_view.specs.Decisions.{first_coordinator, parties}
+use Rattle.gr_view.specs.Modes.{is_open, is_rebuild, is_failed}
+use Rattle.gr_view.specs.Decisions.{first_coordinator}
 use Rattle.gr_rules.specs.Rows.{entry, record_of}
 use Rattle.gr_rules.specs.Grants.{records_after}
 use Rattle.gr_cluster.specs.Tables.{Host, Cluster, host, is_up, log, inbox_of, effective, effective_arcs, view_of, wanted_in}
 use Rattle.gr_cluster.specs.Stages.{stages_of, has_stage}
 use Rattle.gr_cluster.specs.GraphIn.{graph_of, graph_in}
 use Rattle.gr_cluster.specs.Load.{Setting, fresh_host, first_value, first_copy, first_rows, first_arcs, first_host, first_log, load}
-use Rattle.gr_agree.specs.Truth.{Truth, edge_list, held, held_at, place_of, arcs_at, true_entry, entries_at, hidden, copy_at, rows_at}
-use Rattle.gr_agree.specs.TrueRound.{active_next, staged}
+use Rattle.gr_agree.specs.Truth.{Truth, edge_list, held, held_at, place_of, arcs_at, true_entry, entries_at, copy_at, rows_at}
+use Rattle.gr_agree.specs.TrueRound.{active_next}
 use Rattle.gr_agree.specs.FirstTruth.{IsGraph, IsSetting, first_truth}
-use Rattle.gr_agree.specs.Places.{sets_with, may_have_dead}
+use Rattle.gr_agree.specs.Places.{sets_with}
 use Rattle.gr_agree.specs.Logs.{Sound}
-use Rattle.gr_agree.specs.Hosts.{HostHolds, HostOpen, pending_rows, pending_arcs}
+use Rattle.gr_agree.specs.Hosts.{HostOpen, pending_rows, pending_arcs}
 use Rattle.gr_agree.specs.Network.{standing, is_shown}
 use Rattle.gr_agree.specs.Agree.{Agree}
-use Rattle.gr_lists.proofs.Tests.{by_test}
 use Rattle.gr_lists.proofs.Counts.{count_by-cons}
 use Rattle.gr_lists.proofs.Items.{items-rising}
 use Rattle.gr_lists.proofs.Maps.{map-rises, rises-map}
 use Rattle.gr_lists.proofs.Numbers.{range-rises}
 use Rattle.gr_lists.proofs.Each.{Each-weaker}
-use Rattle.gr_lists.proofs.Selections.{map-filter-agree}
 use Rattle.gr_law_bodies.proofs.Values.{rows-staged}
 use Rattle.gr_law_logs.proofs.Logged.{graph-in}
 use Rattle.gr_law_load.proofs.Ranges.{range-below, has-below, numbered-edges, numbered-numbers, numbered-length, numbered-each}
-use Rattle.gr_law_load.proofs.Holders.{home-below, place-below, holders-places, holder-below, home-holds, ends-held}
+use Rattle.gr_law_load.proofs.Holders.{holders-places, holder-below, home-holds, ends-held}
 
 module _ {V A : Type 0} (P : Program V A) (s : Setting) (es : List Edge) (vs : List ℕ) (IS : IsSetting s) (IG : IsGraph es vs) where
   abbrev t : Truth V

@@ -1,17 +1,15 @@
 -- Ranges of numbers, and numbered edges.
-use Rattle.std.proofs.Common.{◌≡◌, ◌<◌, ◌≤◌, ℕ, zero, suc, ◌+◌, List, [], ◌∷◌, ◌++◌, Bool, true, false, ◌==◌, ◌&&◌, ◌||◌, map, filter, length, refl, sym, ap, ◌∙◌, subst, arith, eq-eqb, ne_eqb, lt-ltb, le-ltb, nat_lt}
-use Rattle.std.specs.List.{All, AllByRecursion as Each, list_any, fold, range_with_len, enumerate_from}
-use Rattle.std.proofs.lemmas.Bool.{or_left, or_right, and_left, and_right}
+use Rattle.std.proofs.Common.{◌≡◌, ◌<◌, ◌≤◌, ℕ, zero, suc, ◌+◌, List, [], ◌∷◌, Bool, true, ◌||◌, map, length, refl, sym, ap, ◌∙◌, arith, eq-eqb, ne_eqb, lt-ltb, le-ltb, nat_lt}
+use Rattle.std.specs.List.{All, AllByRecursion as Each, list_any, range_with_len, enumerate_from}
+use Rattle.std.proofs.lemmas.Bool.{or_left, or_right}
 use Rattle.std.proofs.lemmas.List.{length-map}
-use Rattle.std.proofs.lemmas.List.Elements.{All-cons, All-nil, All-head, All-tail}
+use Rattle.std.proofs.lemmas.List.Elements.{All-cons, All-nil}
 use Rattle.gr_base.specs.declared.records.Edge.{Edge}
 use Rattle.gr_base.specs.declared.records.NumberedEdge.{NumberedEdge}
-use Rattle.gr_base.specs.Rising.{RisesBy, has, with_item}
+use Rattle.gr_base.specs.Rising.{has}
 use Rattle.gr_base.specs.Places.{below}
-use Rattle.gr_base.proofs.Rising.{rises-tail, rises-head, rises-cons, rises-nil}
-use Rattle.gr_log.specs.Directory.{with_items}
 use Rattle.gr_cut.specs.Cut.{numbered}
-use Rattle.gr_lists.proofs.Tests.{by_test, by_same}
+use Rattle.gr_lists.proofs.Tests.{by_same}
 
 pub range-below : (a n m : ℕ) → a + n ≤ m → All (λ q. q < m) (range_with_len a n)
 range-below a zero m le = All-nil (λ q. q < m)

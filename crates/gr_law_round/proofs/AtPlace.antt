@@ -1,5 +1,5 @@
 -- What a party that has adopted the epoch of a round stages and sends.
-use Rattle.std.proofs.Common.{◌≡◌, ℕ, zero, suc, ◌+◌, ◌<◌, ◌≤◌, List, [], ◌∷◌, ◌++◌, Bool, true, false, filter_map, flat_map, refl, sym, ap, ◌∙◌, subst, arith, Option, Some, None}
+use Rattle.std.proofs.Common.{◌≡◌, ℕ, zero, suc, ◌+◌, ◌<◌, ◌≤◌, List, ◌++◌, true, false, filter_map, flat_map, refl, sym, ap, ◌∙◌, subst, arith, Option, Some, None}
 use Rattle.std.specs.Prelude.{IsTrue}
 use Rattle.std.specs.List.{AllByRecursion as Each, list_any}
 use Rattle.gr_base.specs.declared.records.NumberedEdge.{NumberedEdge}
@@ -9,10 +9,9 @@ use Rattle.gr_program.specs.declared.copy.VertexCopy.{VertexCopy}
 use Rattle.gr_program.specs.Program.{Program, ProgramLaws}
 use Rattle.gr_copies.specs.declared.view.RebuildView.{RebuildView}
 use Rattle.gr_batch.specs.declared.batch.Batch.{Batch}
-use Rattle.gr_batch.specs.declared.body.Body.{Body}
 use Rattle.gr_batch.specs.declared.stage.Stage.{Stage}
 use Rattle.gr_batch.specs.declared.stage.Stage.TheVariants as stage
-use Rattle.gr_batch.specs.Stages.{place_in, code_of, is_end, is_stage, stage_after}
+use Rattle.gr_batch.specs.Stages.{place_in, code_of, is_end, stage_after}
 use Rattle.gr_batch.specs.Bodies.{is_of, stage_of_body, values_of, signals_of, calls_of}
 use Rattle.gr_view.specs.declared.coordinator.Coordinator.{Coordinator}
 use Rattle.gr_view.specs.declared.coordinator.Mode.TheVariants as mode

@@ -1,7 +1,6 @@
 -- A cluster in which one host has changed, and with it the tail of its log, the flight and what was reported.
-use Rattle.std.proofs.Common.{◌≡◌, ◌≢◌, ℕ, List, Bool, true, ◌==◌, refl, sym, ap, ◌∙◌, subst, Option, Some, None, set, length}
-use Rattle.std.specs.Prelude.{is_some, IsTrue, option_map, ◌&&◌}
-use Rattle.std.specs.List.{AllByRecursion as Each}
+use Rattle.std.proofs.Common.{◌≡◌, ◌≢◌, ℕ, List, refl, sym, ap, ◌∙◌, subst, Some, set, length}
+use Rattle.std.specs.Prelude.{is_some, IsTrue, option_map}
 use Rattle.std.proofs.lemmas.List.{length-set}
 use Rattle.gr_base.specs.Places.{IsPlaces}
 use Rattle.gr_base.specs.Rising.{has}
@@ -13,9 +12,8 @@ use Rattle.gr_view.specs.declared.coordinator.Coordinator.{Coordinator}
 use Rattle.gr_view.specs.Decisions.{parties}
 use Rattle.gr_rules.specs.Rows.{blank_rows}
 use Rattle.gr_rules.specs.Taken.{log_at}
-use Rattle.gr_cluster.specs.Tables.{Host, Cluster, host, is_up, log, inbox_of, effective, effective_arcs, view_of, wanted_in}
+use Rattle.gr_cluster.specs.Tables.{Host, Cluster, host, log, inbox_of, effective, effective_arcs, view_of, wanted_in}
 use Rattle.gr_agree.specs.Truth.{Truth}
-use Rattle.gr_agree.specs.Places.{Shaped, PlacesHold}
 use Rattle.gr_agree.specs.Hosts.{HostHolds, RebornHolds, HostOpen}
 use Rattle.gr_agree.specs.Network.{BatchHolds, NetworkHolds}
 use Rattle.gr_agree.specs.Reports.{ReportsHold}

@@ -1,8 +1,8 @@
 -- Computing a stage of a round keeps the invariant.
-use Rattle.std.proofs.Common.{◌≡◌, ◌≢◌, ℕ, ◌+◌, ◌<◌, ◌≤◌, List, [], Bool, true, false, cond, not, ◌==◌, ◌&&◌, ◌||◌, nat_lt, refl, sym, ap, ◌∙◌, subst, arith, Option, Some, None, eq-eqb, ne_eqb, inl, ⊎_elim, le_refl, le-ltb, lt-ltb, ltb-true, ltb-false}
+use Rattle.std.proofs.Common.{◌≡◌, ◌≢◌, ℕ, ◌+◌, ◌<◌, ◌≤◌, List, [], Bool, true, false, cond, not, ◌==◌, ◌&&◌, ◌||◌, nat_lt, refl, sym, ap, ◌∙◌, subst, arith, Option, Some, None, ne_eqb, inl, le_refl, lt-ltb, ltb-true, ltb-false}
 use Rattle.std.specs.Prelude.{IsTrue, if◌then◌else◌}
 use Rattle.std.specs.List.{AllByRecursion as Each, list_any}
-use Rattle.std.proofs.lemmas.Bool.{and_left, and_right, and_from, or_left, both_ways}
+use Rattle.std.proofs.lemmas.Bool.{and_right, and_from, both_ways}
 use Rattle.gr_base.specs.declared.records.NumberedEdge.{NumberedEdge}
 use Rattle.gr_base.specs.Rising.{has}
 use Rattle.gr_base.specs.Places.{without_place}
@@ -11,7 +11,6 @@ use Rattle.gr_program.specs.Program.{Program, ProgramLaws}
 use Rattle.gr_batch.specs.declared.stage.Stage.{Stage}
 use Rattle.gr_batch.specs.declared.stage.Stage.TheVariants as stage
 use Rattle.gr_batch.specs.Stages.{place_in, is_end, is_stage, stage_after}
-use Rattle.gr_view.specs.declared.coordinator.Mode.{Mode}
 use Rattle.gr_view.specs.declared.coordinator.Mode.TheVariants as mode
 use Rattle.gr_view.specs.Modes.{is_open, is_failed, is_rebuild}
 use Rattle.gr_view.specs.Decisions.{parties}
@@ -23,23 +22,23 @@ use Rattle.gr_cluster.specs.Tables.{Host, Cluster, host, inbox_of, log, with_hos
 use Rattle.gr_cluster.specs.Stages.{stages_of, has_stage}
 use Rattle.gr_cluster.specs.Todo.{others}
 use Rattle.gr_cluster.specs.Place.{staged_rows, staged_arcs, rebuild_rows, taken}
-use Rattle.gr_cluster.specs.Work.{exchange_of, in_exchange, worked}
-use Rattle.gr_agree.specs.Truth.{Truth, rows_at, arcs_at}
+use Rattle.gr_cluster.specs.Work.{in_exchange, worked}
+use Rattle.gr_agree.specs.Truth.{Truth}
 use Rattle.gr_agree.specs.TrueRound.{staged}
 use Rattle.gr_agree.specs.Places.{may_have_dead}
 use Rattle.gr_agree.specs.Hosts.{progress, HasNeeded, HostOpen, AtEpoch, pending_rows, pending_arcs}
 use Rattle.gr_agree.specs.Network.{BatchHolds, is_shown}
 use Rattle.gr_agree.specs.Agree.{Agree}
-use Rattle.gr_lists.proofs.Tests.{by_test, by_option}
+use Rattle.gr_lists.proofs.Tests.{by_test}
 use Rattle.gr_lists.proofs.Any.{find-none_of, find-one_of, has-filter}
-use Rattle.gr_law_bodies.proofs.Fold.{occurs, occurs-once}
+use Rattle.gr_law_bodies.proofs.Fold.{occurs-once}
 use Rattle.gr_law_network.specs.Law.{IsKept}
 use Rattle.gr_law_network.proofs.Frame.{host-with_host, host-with_host-other}
-use Rattle.gr_law_round.proofs.Changed.{changed, changed-kept}
-use Rattle.gr_law_round.proofs.Network.{inbox-here, network-kept, network-passed}
-use Rattle.gr_law_round.proofs.Running.{not-recovering, parties-rise, shows-stable, mastered, placed, steady-here}
+use Rattle.gr_law_round.proofs.Changed.{changed-kept}
+use Rattle.gr_law_round.proofs.Network.{network-kept, network-passed}
+use Rattle.gr_law_round.proofs.Running.{parties-rise, shows-stable, mastered, placed, steady-here}
 use Rattle.gr_law_round.proofs.Install.{party, opened, none-reborn, reports-same}
-use Rattle.gr_law_round.proofs.AtPlace.{IsRoundStage, place-le, same-need, after-place, end-place, round-rows-true}
+use Rattle.gr_law_round.proofs.AtPlace.{IsRoundStage, place-le, same-need, after-place, round-rows-true}
 
 pub other-party : (ps : List ℕ) (p q : ℕ) → has ps q ≡ true → p ≢ q → has (without_place ps p) q ≡ true
 other-party ps p q m ne = has-filter (λ r. not (r == p)) ps q ∙ and_from _ _ m (ap not (ne_eqb q p (λ x. ne (sym x))))

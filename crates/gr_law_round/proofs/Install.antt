@@ -1,39 +1,38 @@
 -- An install and an adoption keep the invariant.
-use Rattle.std.proofs.Common.{◌≡◌, ◌≢◌, ℕ, ◌+◌, ◌<◌, ◌≤◌, List, [], Bool, true, false, cond, not, ◌==◌, ◌&&◌, ◌||◌, nat_lt, refl, sym, ap, ◌∙◌, subst, arith, Option, Some, None, set, length, eq-eqb, ne_eqb, inl, ⊎_elim, le_refl, le-ltb, lt-ltb}
-use Rattle.std.specs.Prelude.{IsTrue, count_by}
-use Rattle.std.specs.List.{AllByRecursion as Each}
+use Rattle.std.proofs.Common.{◌≡◌, ◌≢◌, ℕ, ◌+◌, ◌<◌, ◌≤◌, List, Bool, true, false, cond, not, ◌==◌, ◌&&◌, ◌||◌, nat_lt, refl, sym, ap, ◌∙◌, arith, Some, set, length, eq-eqb, ne_eqb, inl, ⊎_elim, le_refl, le-ltb}
+use Rattle.std.specs.Prelude.{IsTrue}
 use Rattle.std.proofs.lemmas.Bool.{and_left, and_right, not_from_false}
 use Rattle.std.proofs.lemmas.List.{length-set, get_or-set_same, get_or-set_other}
 use Rattle.gr_base.specs.Rising.{has}
 use Rattle.gr_base.specs.declared.records.NumberedEdge.{NumberedEdge}
 use Rattle.gr_program.specs.declared.copy.VertexCopy.{VertexCopy}
-use Rattle.gr_program.specs.Program.{Program, ProgramLaws}
+use Rattle.gr_program.specs.Program.{Program}
 use Rattle.gr_log.specs.Log.{Log, empty_log, cut_log}
 use Rattle.gr_batch.specs.declared.stage.Stage.{Stage}
 use Rattle.gr_batch.specs.Stages.{place_in, is_end, is_stage}
 use Rattle.gr_batch.specs.Bodies.{is_of}
 use Rattle.gr_view.specs.declared.coordinator.Mode.{Mode}
 use Rattle.gr_view.specs.declared.coordinator.Mode.TheVariants as mode
-use Rattle.gr_view.specs.Modes.{is_open, is_failed, is_rebuild}
+use Rattle.gr_view.specs.Modes.{is_open, is_rebuild}
 use Rattle.gr_view.specs.Decisions.{parties}
 use Rattle.gr_rules.specs.Taken.{log_at}
-use Rattle.gr_cluster.specs.Tables.{Host, Cluster, host, log, with_host, with_log, effective, effective_arcs, view_of, wanted_in}
+use Rattle.gr_cluster.specs.Tables.{Host, Cluster, host, log, with_host, with_log, view_of, wanted_in}
 use Rattle.gr_cluster.specs.Stages.{stages_of, has_stage, first_stage}
 use Rattle.gr_cluster.specs.Work.{installed_host, adopted_host}
-use Rattle.gr_agree.specs.Truth.{Truth, rows_at}
+use Rattle.gr_agree.specs.Truth.{Truth}
 use Rattle.gr_agree.specs.TrueRound.{staged}
-use Rattle.gr_agree.specs.Hosts.{HostOpen, RebornHolds, pending_rows, pending_arcs}
+use Rattle.gr_agree.specs.Hosts.{HostOpen, pending_rows, pending_arcs}
 use Rattle.gr_agree.specs.Network.{is_shown}
 use Rattle.gr_agree.specs.Reports.{ReportsHold}
 use Rattle.gr_agree.specs.Agree.{Agree}
-use Rattle.gr_lists.proofs.Tests.{by_test, by_same}
+use Rattle.gr_lists.proofs.Tests.{by_same}
 use Rattle.gr_lists.proofs.Counts.{count_by-filter, count_by-filter-le}
 use Rattle.gr_lists.proofs.Each.{Each-filter}
 use Rattle.gr_law_bodies.proofs.Values.{rows-staged}
 use Rattle.gr_law_network.specs.Law.{IsKept}
 use Rattle.gr_law_network.proofs.Frame.{host-with_host, host-with_host-other, each-host, within}
 use Rattle.gr_law_network.proofs.Kept.{up-party}
-use Rattle.gr_law_round.proofs.Changed.{changed, changed-kept}
+use Rattle.gr_law_round.proofs.Changed.{changed-kept}
 use Rattle.gr_law_round.proofs.Network.{of-parts, inbox-here, network-line, network-kept}
 use Rattle.gr_law_round.proofs.Running.{no-reborn, shows-stable}
 

@@ -1,14 +1,14 @@
 -- The batches, where the host of one place changes, and where it sends one.
-use Rattle.std.proofs.Common.{◌≡◌, ◌≢◌, ℕ, ◌+◌, ◌<◌, ◌≤◌, List, [], ◌∷◌, ◌++◌, Bool, true, false, cond, ◌==◌, ◌&&◌, ◌||◌, refl, sym, ap, ◌∙◌, subst, arith, Option, Some, None, eqb-true, eq-eqb, ne_eqb, le_refl}
-use Rattle.std.specs.Prelude.{is_some, IsTrue, count_by}
+use Rattle.std.proofs.Common.{◌≡◌, ◌≢◌, ℕ, ◌+◌, ◌≤◌, List, [], ◌∷◌, ◌++◌, Bool, true, false, cond, ◌==◌, refl, sym, ap, ◌∙◌, subst, arith, Option, Some, eqb-true, le_refl}
+use Rattle.std.specs.Prelude.{is_some, count_by}
 use Rattle.std.specs.List.{AllByRecursion as Each}
-use Rattle.std.proofs.lemmas.Bool.{and_left, and_right, and_parts}
+use Rattle.std.proofs.lemmas.Bool.{and_parts}
 use Rattle.gr_base.specs.Rising.{has}
 use Rattle.gr_program.specs.Program.{Program}
 use Rattle.gr_copies.specs.declared.view.RebuildView.{RebuildView}
 use Rattle.gr_batch.specs.declared.batch.Batch.{Batch}
 use Rattle.gr_batch.specs.declared.stage.Stage.{Stage}
-use Rattle.gr_batch.specs.Stages.{is_stage, code_of}
+use Rattle.gr_batch.specs.Stages.{code_of}
 use Rattle.gr_batch.specs.Bodies.{is_from, is_of, stage_of_body}
 use Rattle.gr_view.specs.declared.coordinator.Coordinator.{Coordinator}
 use Rattle.gr_view.specs.Decisions.{parties}

@@ -1,5 +1,5 @@
 -- The report of a place in a round keeps the invariant.
-use Rattle.std.proofs.Common.{◌≡◌, ◌≢◌, ℕ, ◌+◌, ◌<◌, ◌≤◌, List, Bool, true, false, cond, not, ◌==◌, ◌&&◌, ◌||◌, refl, sym, ap, ◌∙◌, subst, arith, Option, Some, None, eq-eqb, eqb-true, ne_eqb, inl}
+use Rattle.std.proofs.Common.{◌≡◌, ℕ, ◌+◌, ◌<◌, ◌≤◌, List, Bool, true, false, cond, ◌==◌, ◌&&◌, ◌||◌, refl, sym, ap, ◌∙◌, arith, Some, eq-eqb, eqb-true, ne_eqb, inl}
 use Rattle.std.specs.Prelude.{IsTrue, count_by}
 use Rattle.std.proofs.lemmas.Bool.{and_left, and_right, or_right, both_ways}
 use Rattle.gr_base.specs.Rising.{has}
@@ -12,7 +12,7 @@ use Rattle.gr_view.specs.Modes.{is_open, is_round, is_rebuild}
 use Rattle.gr_view.specs.Decisions.{parties}
 use Rattle.gr_rules.specs.AtPlace.{due_count}
 use Rattle.gr_rules.specs.Todo.{Todo}
-use Rattle.gr_cluster.specs.Tables.{Host, Cluster, host, log, with_host, view_of, wanted_in}
+use Rattle.gr_cluster.specs.Tables.{Host, Cluster, host, with_host, view_of, wanted_in}
 use Rattle.gr_cluster.specs.Work.{worked}
 use Rattle.gr_agree.specs.Truth.{Truth, held}
 use Rattle.gr_agree.specs.TrueRound.{active_next, copy_staged, staged}
@@ -27,7 +27,7 @@ use Rattle.gr_lists.proofs.Sets.{has-with_place, IsPlaces-with}
 use Rattle.gr_law_bodies.proofs.Rows.{held-here}
 use Rattle.gr_law_network.specs.Law.{IsKept}
 use Rattle.gr_law_network.proofs.Frame.{within, host-with_host, host-with_host-other}
-use Rattle.gr_law_round.proofs.Changed.{changed, changed-kept}
+use Rattle.gr_law_round.proofs.Changed.{changed-kept}
 use Rattle.gr_law_round.proofs.Network.{network-kept}
 use Rattle.gr_law_round.proofs.Running.{steady-here}
 use Rattle.gr_law_round.proofs.Install.{party, opened, none-reborn}

@@ -1,20 +1,18 @@
 -- What the invariant says of the parties while no rebuild is open, and of a place's rows.
-use Rattle.std.proofs.Common.{◌≡◌, ◌≢◌, ℕ, ◌+◌, ◌<◌, ◌≤◌, List, [], Bool, true, false, cond, ◌==◌, ◌||◌, nat_lt, refl, sym, ap, ◌∙◌, subst, arith, Some, ne_eqb, ⊎_elim, lt-ltb}
-use Rattle.std.specs.Prelude.{IsTrue}
+use Rattle.std.proofs.Common.{◌≡◌, ◌≢◌, ℕ, ◌+◌, [], true, false, cond, ◌==◌, nat_lt, refl, sym, ap, ◌∙◌, arith, Some, ne_eqb, lt-ltb}
 use Rattle.std.specs.List.{AllByRecursion as Each}
 use Rattle.std.proofs.lemmas.Bool.{cond-true}
 use Rattle.gr_base.specs.Rising.{RisesBy, has, union}
-use Rattle.gr_base.specs.Places.{IsPlaces}
-use Rattle.gr_base.proofs.Union.{has-union, union-rises, union-nil}
+use Rattle.gr_base.proofs.Union.{union-rises, union-nil}
 use Rattle.gr_program.specs.Program.{Program, ProgramLaws}
 use Rattle.gr_view.specs.declared.coordinator.Mode.{Mode}
 use Rattle.gr_view.specs.declared.coordinator.Mode.TheVariants as mode
-use Rattle.gr_view.specs.Modes.{is_over, is_open, is_round, is_rebuild}
+use Rattle.gr_view.specs.Modes.{is_open, is_rebuild}
 use Rattle.gr_view.specs.Decisions.{parties}
-use Rattle.gr_cluster.specs.Tables.{Host, Cluster, host, log, effective, effective_arcs, view_of, wanted_in}
+use Rattle.gr_cluster.specs.Tables.{Host, Cluster, host}
 use Rattle.gr_agree.specs.Truth.{Truth, high, place_of, rows_at, arcs_at}
-use Rattle.gr_agree.specs.Places.{may_have_dead, sets_with}
-use Rattle.gr_agree.specs.Hosts.{HostHolds, HostOpen}
+use Rattle.gr_agree.specs.Places.{sets_with}
+use Rattle.gr_agree.specs.Hosts.{HostHolds}
 use Rattle.gr_agree.specs.Agree.{Agree}
 use Rattle.gr_lists.proofs.Tests.{by_test}
 use Rattle.gr_lists.proofs.Each.{Each-both}

@@ -1,13 +1,11 @@
 -- Sending a batch of a round keeps the invariant.
-use Rattle.std.proofs.Common.{◌≡◌, ◌≢◌, ℕ, ◌+◌, ◌<◌, ◌≤◌, List, [], ◌∷◌, ◌++◌, Bool, true, false, cond, not, ◌==◌, ◌&&◌, ◌||◌, nat_lt, refl, sym, ap, ◌∙◌, subst, arith, Option, Some, None, eq-eqb, eqb-true, inl, le_refl, le-ltb, lt-ltb, ltb-true}
+use Rattle.std.proofs.Common.{◌≡◌, ◌≢◌, ℕ, ◌+◌, ◌≤◌, List, [], ◌∷◌, ◌++◌, Bool, true, false, cond, not, ◌==◌, ◌&&◌, ◌||◌, nat_lt, refl, sym, ap, ◌∙◌, subst, arith, Option, Some, None, eq-eqb, inl, le_refl, le-ltb}
 use Rattle.std.specs.Prelude.{IsTrue}
-use Rattle.std.specs.List.{list_any}
-use Rattle.std.proofs.lemmas.Bool.{and_left, and_right, and_parts, and_from, or_left, or_right, or_from, not-true, both_ways}
+use Rattle.std.proofs.lemmas.Bool.{and_left, and_right, and_parts, and_from, or_right, or_from, not-true, both_ways}
 use Rattle.gr_base.specs.Rising.{has}
 use Rattle.gr_base.specs.Places.{with_place}
 use Rattle.gr_program.specs.Program.{Program, ProgramLaws}
 use Rattle.gr_batch.specs.declared.batch.Batch.{Batch}
-use Rattle.gr_batch.specs.declared.body.Body.{Body}
 use Rattle.gr_batch.specs.declared.stage.Stage.{Stage}
 use Rattle.gr_batch.specs.declared.stage.Stage.TheVariants as stage
 use Rattle.gr_batch.specs.Stages.{place_in, code_of, is_end, is_stage, stage_after}
@@ -18,7 +16,7 @@ use Rattle.gr_view.specs.Decisions.{parties}
 use Rattle.gr_rules.specs.AtPlace.{round_body}
 use Rattle.gr_rules.specs.Exchange.{Exchange, unsent, passed}
 use Rattle.gr_rules.specs.Todo.{Todo}
-use Rattle.gr_cluster.specs.Tables.{Host, Cluster, host, log, with_host, view_of, wanted_in}
+use Rattle.gr_cluster.specs.Tables.{Host, Cluster, host, with_host, view_of, wanted_in}
 use Rattle.gr_cluster.specs.Stages.{stages_of, has_stage}
 use Rattle.gr_cluster.specs.Todo.{others}
 use Rattle.gr_cluster.specs.Place.{body_to, batch_to}
@@ -35,13 +33,13 @@ use Rattle.gr_lists.proofs.Sets.{has-with_place}
 use Rattle.gr_law_bodies.proofs.Fold.{occurs-once}
 use Rattle.gr_law_network.specs.Law.{IsKept}
 use Rattle.gr_law_network.proofs.Frame.{host-with_host, host-with_host-other}
-use Rattle.gr_law_round.proofs.Changed.{changed, changed-kept}
+use Rattle.gr_law_round.proofs.Changed.{changed-kept}
 use Rattle.gr_law_round.proofs.Network.{network-sent}
 use Rattle.gr_law_round.proofs.Running.{parties-rise, shows-stable, mastered, placed, steady-here}
 use Rattle.gr_law_round.proofs.Install.{party, opened, none-reborn, reports-same}
 use Rattle.gr_law_round.proofs.AtPlace.{IsRoundStage, after-place, round-body-true, round-body-code}
 use Rattle.gr_law_round.proofs.Passing.{same-code, after-lt}
-use Rattle.gr_law_round.proofs.Compute.{other-party, is-now, at-epoch, none-dead, inbox-good, round-stage, needed-before, pending-here, shown-rows, shown-arcs, arcs-here, rows-from, needed-from, stage-from, stage-to, not-failed}
+use Rattle.gr_law_round.proofs.Compute.{other-party, is-now, at-epoch, none-dead, inbox-good, round-stage, needed-before, pending-here, shown-rows, shown-arcs, arcs-here, rows-from, stage-from, stage-to, not-failed}
 
 module _ {V A : Type 0} (P : Program V A) (t : Truth V) (c : Cluster V A) (L : ProgramLaws P) (AG : Agree P t c) (no_rebuild : is_rebuild c.coordinator.mode ≡ false) (running : c.coordinator.mode ≡ mode.Running)
     (p : ℕ) (h : Host V A) (at : host c p ≡ Some h) (le : c.coordinator.commits ≤ h.installed) (le' : c.coordinator.epoch ≤ h.epoch) (comp : h.computed ≡ true)

@@ -1,9 +1,7 @@
 -- The cases of what a place does next where no rebuild is open, each with what its tests said.
-use Rattle.std.proofs.Common.{◌≡◌, ℕ, ◌<◌, ◌≤◌, List, Bool, true, false, not, ◌&&◌, refl, sym, ap, ◌∙◌, subst, Option, Some, None, ltb-true, ltb-false, nat_lt}
-use Rattle.std.specs.Prelude.{IsTrue}
-use Rattle.std.specs.List.{list_any, find}
+use Rattle.std.proofs.Common.{◌≡◌, ℕ, ◌<◌, ◌≤◌, List, Bool, true, false, not, ◌&&◌, refl, sym, ap, subst, Option, Some, None, ltb-true, ltb-false, nat_lt}
+use Rattle.std.specs.List.{list_any}
 use Rattle.std.proofs.lemmas.Bool.{and_parts, and_left, not-true, and_from, both_ways, true_from_ne_false}
-use Rattle.gr_base.specs.Rising.{has}
 use Rattle.gr_batch.specs.declared.batch.Batch.{Batch}
 use Rattle.gr_batch.specs.declared.stage.Stage.{Stage}
 use Rattle.gr_batch.specs.Stages.{is_end}

@@ -1,5 +1,5 @@
 -- What an undisturbed cluster keeps: it agrees with a committed state of the graph, and every place is up and live.
-use Rattle.std.proofs.Common.{◌≡◌, ◌≢◌, ◌<◌, ◌≤◌, ℕ, ◌+◌, List, [], ◌∷◌, Bool, true, false, cond, not, ◌==◌, ◌&&◌, ◌||◌, nat_lt, filter, length, refl, sym, ap, ◌∙◌, subst, arith, Option, Some, None, inl, inr, ◌⊎◌, ⊎_elim, eq-eqb, slice_get, remove, set, if◌then◌else◌}
+use Rattle.std.proofs.Common.{◌≡◌, ℕ, ◌+◌, List, [], ◌∷◌, Bool, true, false, not, ◌==◌, ◌||◌, nat_lt, filter, refl, sym, ap, ◌∙◌, subst, Option, Some, None, eq-eqb, slice_get, if◌then◌else◌}
 use Rattle.std.specs.Prelude.{IsTrue, is_some, is_none, option_map}
 use Rattle.std.specs.List.{AllByRecursion as Each}
 use Rattle.std.proofs.lemmas.Bool.{or_left, or_right}
@@ -15,21 +15,19 @@ use Rattle.gr_view.specs.declared.coordinator.Mode.{Mode}
 use Rattle.gr_view.specs.declared.coordinator.Mode.TheVariants as mode
 use Rattle.gr_view.specs.declared.coordinator.Verdict.{Verdict}
 use Rattle.gr_view.specs.declared.coordinator.Verdict.TheVariants as verdict
-use Rattle.gr_view.specs.Modes.{is_over, is_round, is_failed, is_rebuild}
+use Rattle.gr_view.specs.Modes.{is_over, is_failed, is_rebuild}
 use Rattle.gr_view.specs.Decisions.{parties, looked_at, unready, rebuild_committed, round_committed, commit_unless, at_barrier}
 use Rattle.gr_rules.specs.Todo.{Todo}
 use Rattle.gr_cluster.specs.Tables.{Host, Cluster, changed_at, host, is_up, effective}
 use Rattle.gr_cluster.specs.Todo.{todo}
 use Rattle.gr_cluster.specs.Work.{worked, worked_at}
-use Rattle.gr_cluster.specs.Network.{received, delivered, dropped}
-use Rattle.gr_cluster.specs.Step.{down_among, after_verdict, barred, with_coordinator, with_logs_committed, step}
-use Rattle.gr_cluster.specs.Runs.{is_commit}
+use Rattle.gr_cluster.specs.Network.{delivered, dropped}
+use Rattle.gr_cluster.specs.Step.{down_among, after_verdict, barred, with_coordinator, step}
 use Rattle.gr_agree.specs.Truth.{Truth, edge_list}
 use Rattle.gr_agree.specs.TrueRound.{next}
 use Rattle.gr_agree.specs.Agree.{Agree}
-use Rattle.gr_agree.specs.Laws.{effective_rows, IsCommittedSame}
 use Rattle.gr_law_network.specs.Law.{IsKept}
-use Rattle.gr_law_network.proofs.Kept.{kept-same, deliver-kept, drop-kept}
+use Rattle.gr_law_network.proofs.Kept.{deliver-kept, drop-kept}
 use Rattle.gr_law_round.proofs.Work.{work-kept}
 use Rattle.gr_law_commit.proofs.Commit.{not-false, commit-kept}
 use Rattle.gr_law_runs.specs.Law.{is_plain, after_events}

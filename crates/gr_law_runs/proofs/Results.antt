@@ -1,25 +1,25 @@
 -- The results of a cluster that is done are the values of its committed state.
-use Rattle.std.proofs.Common.{◌≡◌, ◌<◌, ◌≤◌, ℕ, ◌+◌, List, [], ◌∷◌, Bool, true, false, cond, not, ◌==◌, ◌&&◌, ◌||◌, nat_lt, map, filter, filter_map, refl, sym, ap, ◌∙◌, subst, arith, Option, Some, None, eq-eqb, eqb-true, length, lt-ltb, ltb-true, if◌then◌else◌}
+use Rattle.std.proofs.Common.{◌≡◌, ◌<◌, ℕ, List, [], ◌∷◌, Bool, true, false, not, ◌==◌, ◌&&◌, ◌||◌, nat_lt, map, filter, filter_map, refl, sym, ap, ◌∙◌, arith, Option, Some, None, eq-eqb, eqb-true, length, lt-ltb, ltb-true, if◌then◌else◌}
 use Rattle.std.specs.Prelude.{IsTrue, is_some, option_map}
 use Rattle.std.specs.List.{AllByRecursion as Each, list_any, cons_option}
 use Rattle.std.proofs.lemmas.Bool.{cond-true, and_right, or_left, or_right}
 use Rattle.gr_base.specs.declared.records.Edge.{Edge}
-use Rattle.gr_base.specs.Rising.{RisesBy, has, union}
+use Rattle.gr_base.specs.Rising.{RisesBy, has}
 use Rattle.gr_base.specs.Places.{below}
 use Rattle.gr_base.proofs.Rising.{filter-rises}
 use Rattle.gr_base.proofs.Union.{has-union}
 use Rattle.gr_program.specs.declared.copy.VertexCopy.{VertexCopy}
 use Rattle.gr_program.specs.declared.program.ValueOf.{ValueOf}
 use Rattle.gr_program.specs.Program.{Program, ProgramLaws}
-use Rattle.gr_program.specs.Rounds.{State, state_after, last_round}
-use Rattle.gr_program.specs.Result.{shown, values_after}
+use Rattle.gr_program.specs.Rounds.{state_after, last_round}
+use Rattle.gr_program.specs.Result.{shown}
 use Rattle.gr_log.specs.Directory.{with_items}
 use Rattle.gr_sched.specs.declared.event.Event.{Event}
 use Rattle.gr_view.specs.declared.coordinator.Mode.TheVariants as mode
-use Rattle.gr_cluster.specs.Tables.{Host, Cluster, host, is_up, effective}
+use Rattle.gr_cluster.specs.Tables.{Host, Cluster, host, effective}
 use Rattle.gr_cluster.specs.Load.{Setting, load}
-use Rattle.gr_cluster.specs.Ending.{effective_at, values_at, results_of}
-use Rattle.gr_agree.specs.Truth.{Truth, edge_list, held, held_at, hidden, copy_at, rows_at}
+use Rattle.gr_cluster.specs.Ending.{values_at, results_of}
+use Rattle.gr_agree.specs.Truth.{Truth, held, hidden, copy_at, rows_at}
 use Rattle.gr_agree.specs.FirstTruth.{IsGraph, IsSetting, first_truth}
 use Rattle.gr_agree.specs.Places.{may_have_dead, sets_with}
 use Rattle.gr_agree.specs.Agree.{Agree}
