@@ -1,5 +1,5 @@
 -- The edges at a place by their numbers.
-use Rattle.std.proofs.Common.{◌≡◌, ◌∙◌, ◌<◌, ◌≤◌, ◌+◌, ℕ, zero, suc, Bool, eqb, List, [], ◌∷◌, map, length, get_or, slice_index_or, refl, ap, sym, subst, arith, inl, inr}
+use Rattle.std.proofs.Common.{◌≡◌, ◌∙◌, ◌<◌, ◌+◌, ℕ, suc, Bool, eqb, List, [], ◌∷◌, map, length, get_or, slice_index_or, refl, ap, sym, subst, arith, inl, inr}
 use Rattle.std.specs.List.{All, filter, enumerate_from}
 use Rattle.std.proofs.lemmas.Bool.{cases_Bool}
 use Rattle.gr_base.specs.declared.records.Edge.{Edge}

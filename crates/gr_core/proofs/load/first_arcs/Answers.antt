@@ -1,4 +1,4 @@
-use Rattle.std.proofs.Common.{◌≡◌, ◌∙◌, ap}
+use Rattle.std.proofs.Common.{◌∙◌, ap}
 use Rattle.std.specs.Prelude.{is_some}
 use Rattle.gr_base.specs.Rising.{with_item}
 use Rattle.gr_arcs.specs.Layers.{EdgeLayers, number_of}

@@ -1,5 +1,4 @@
 use Rattle.std.proofs.Common.{◌≡◌, ◌∙◌, ◌<◌, ◌≤◌, ℕ, Bool, length, map, take, get_or, filter, refl, ap, sym, subst, arith}
-use Rattle.std.specs.List.{All}
 use Rattle.std.proofs.lemmas.List.{length-map, get_or-map, take_all}
 use Rattle.gr_base.specs.declared.records.Directory.{Directory}
 use Rattle.gr_base.specs.Rising.{RisesBy, has, with_item}

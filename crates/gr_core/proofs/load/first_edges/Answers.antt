@@ -3,7 +3,6 @@ use Rattle.std.specs.List.{All}
 use Rattle.std.proofs.lemmas.List.{take_all}
 use Rattle.gr_base.specs.Rising.{RisesBy}
 use Rattle.gr_arcs.specs.Layers.{number_of}
-use Rattle.gr_cut.specs.Cut.{edges_at_load}
 use Rattle.gr_core.proofs.Edges.{numbered_at, numbers, numbers-bound, cut-count, cut-at, edges-again, edges-rise}
 use Rattle.gr_core.proofs.load.first_edges.Goals as goal
 

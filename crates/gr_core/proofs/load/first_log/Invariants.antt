@@ -1,6 +1,5 @@
 use Rattle.std.proofs.Common.{◌≡◌, ◌≤◌, ◌-◌, [], ◌++◌, map, take, length}
 use Rattle.gr_log.specs.declared.record.LogRecord.TheVariants as item
-use Rattle.gr_log.specs.Log.{Log}
 use Rattle.gr_rules.specs.Rows.{record_of}
 use Rattle.gr_core.proofs.load.first_log.Given as goal
 
