@@ -22,7 +22,7 @@ loop-p-preserved g c =
       | in-Some+in_ok-news+in_ok-values w ↦
           let h = w.in-Some.host in
           let news : w.in_ok-news.news ≡ values_at t p =
-              w.in_ok-news.ensures.values ∙ ap (λ n. mastered_in p (effective n h)) commits ∙ sym (values-up t p h (sym slot_is ∙ w.in-Some.is)) in
+          w.in_ok-news.ensures.values ∙ ap (λ n. mastered_in p (effective n h)) commits ∙ sym (values-up t p h (sym slot_is ∙ w.in-Some.is)) in
           w.values-is ∙ w.in_ok-values.ensures
           ∙ (λ k. with_items vertex_in (w.as_slice-in-Some.ensures k) (w.as_slice.ensures k))
           ∙ (λ k. with_items vertex_in (news k) (c.loop-p.invariant k)) ∙ sym (merged-more t p)
