@@ -1,9 +1,8 @@
 -- What a place's rows and edges give, where they are those of the committed state.
-use Rattle.std.proofs.Common.{◌≡◌, ◌<◌, ℕ, zero, suc, List, [], ◌∷◌, Bool, true, false, cond, arith, not, ◌==◌, ◌&&◌, map, filter, filter_map, refl, sym, ap, ◌∙◌, subst, Option, Some, None, if◌then◌else◌, eqb-true, eq-eqb}
+use Rattle.std.proofs.Common.{◌≡◌, ◌<◌, ℕ, zero, suc, List, [], ◌∷◌, Bool, true, false, cond, arith, not, ◌==◌, ◌&&◌, map, filter, filter_map, refl, sym, ap, ◌∙◌, subst, Some, None, if◌then◌else◌, eqb-true, eq-eqb}
 use Rattle.std.specs.Prelude.{IsTrue, option_map}
-use Rattle.std.specs.List.{AllByRecursion as Each, list_any, cons_option, find, fold}
-use Rattle.std.proofs.lemmas.Bool.{and_parts, both_ways, and_right}
-use Rattle.gr_base.specs.declared.records.Edge.{Edge}
+use Rattle.std.specs.List.{AllByRecursion as Each, list_any, cons_option, fold}
+use Rattle.std.proofs.lemmas.Bool.{both_ways, and_right}
 use Rattle.gr_base.specs.declared.records.NumberedEdge.{NumberedEdge}
 use Rattle.gr_base.specs.Rising.{has}
 use Rattle.gr_base.specs.Places.{without_place}
@@ -21,7 +20,7 @@ use Rattle.gr_lists.proofs.Tests.{by_test}
 use Rattle.gr_lists.proofs.Each.{Each-both, Each-weaker, Each-always, Each-filter}
 use Rattle.gr_lists.proofs.Any.{list_any-filter_none, filter-none}
 use Rattle.gr_lists.proofs.Selections.{map-filter-filter-agree, filter-filter-within, filter-swap, filter_map-map-filter, find-filter_map}
-use Rattle.gr_law_bodies.proofs.Fold.{occurs, joined, total-joined, fold-joined, joined-kept, unit-right, joined-by_place, joined-extract, joined-some}
+use Rattle.gr_law_bodies.proofs.Fold.{occurs, joined, total-joined, fold-joined, joined-kept, joined-by_place, joined-extract, joined-some}
 use Rattle.gr_law_bodies.proofs.Steady.{Steady}
 
 -- the Gather bodies of the places qs to p

@@ -1,6 +1,6 @@
 -- Which vertices woke, the Signal and Call bodies and the vertices due next, where rows, edges and batches are those of the committed state.
-use Rattle.std.proofs.Common.{◌≡◌, ◌<◌, ℕ, List, [], ◌∷◌, ◌++◌, Bool, true, false, cond, not, ◌==◌, ◌&&◌, ◌||◌, map, filter, filter_map, flat_map, refl, sym, ap, ◌∙◌, arith, Option, Some, None, if◌then◌else◌, eqb-true, eq-eqb}
-use Rattle.std.specs.Prelude.{IsTrue, unwrap_or}
+use Rattle.std.proofs.Common.{◌≡◌, ◌<◌, ℕ, List, [], ◌∷◌, ◌++◌, Bool, true, false, not, ◌==◌, ◌&&◌, ◌||◌, map, filter_map, flat_map, refl, sym, ap, ◌∙◌, arith, Option, Some, None, if◌then◌else◌, eqb-true, eq-eqb}
+use Rattle.std.specs.Prelude.{unwrap_or}
 use Rattle.std.specs.List.{AllByRecursion as Each, list_any}
 use Rattle.std.proofs.lemmas.Bool.{and_parts, and_right, both_ways, or_left, or_right}
 use Rattle.gr_base.specs.declared.records.NumberedEdge.{NumberedEdge}
@@ -11,7 +11,7 @@ use Rattle.gr_program.specs.Program.{Program, ProgramLaws}
 use Rattle.gr_program.specs.Rounds.{after_round}
 use Rattle.gr_batch.specs.declared.body.NewValue.{NewValue}
 use Rattle.gr_rules.specs.Round.{woke_by, is_signalled, signal_body, call_body}
-use Rattle.gr_agree.specs.Truth.{Truth, edge_list, true_indegree, true_outdegree, held, place_of, arcs_at, hidden, copy_at, rows_at}
+use Rattle.gr_agree.specs.Truth.{Truth, true_indegree, true_outdegree, held, place_of, arcs_at, hidden, copy_at, rows_at}
 use Rattle.gr_agree.specs.TrueRound.{value_next, wakes_at, active_next, true_value, true_values, true_signals, true_calls}
 use Rattle.gr_agree.specs.Logs.{Sound}
 use Rattle.gr_lists.proofs.Tests.{by_test, by_option}
@@ -22,7 +22,7 @@ use Rattle.gr_lists.proofs.Selections.{map-filter-map-filter}
 use Rattle.gr_law_bodies.proofs.Fold.{occurs}
 use Rattle.gr_law_bodies.proofs.Steady.{Steady}
 use Rattle.gr_law_bodies.proofs.Rows.{held-here}
-use Rattle.gr_law_bodies.proofs.Values.{old_at, own_line, own_line-named}
+use Rattle.gr_law_bodies.proofs.Values.{own_line, own_line-named}
 
 abbrev wake_of : {V : Type 0} → Option (NewValue V) → Bool
 wake_of None = false

@@ -1,5 +1,5 @@
 -- What the stages Signal and End stage, where rows, edges and batches are those of the committed state.
-use Rattle.std.proofs.Common.{◌≡◌, ℕ, List, [], ◌∷◌, ◌++◌, Bool, true, false, not, ◌==◌, ◌&&◌, ◌||◌, nat_lt, map, filter, find, flat_map, refl, sym, ap, ◌∙◌, Option, Some, None, if◌then◌else◌, eqb-true}
+use Rattle.std.proofs.Common.{◌≡◌, ℕ, List, [], ◌∷◌, ◌++◌, Bool, true, false, not, ◌==◌, ◌&&◌, ◌||◌, find, flat_map, refl, sym, ap, ◌∙◌, Option, Some, None, if◌then◌else◌, eqb-true}
 use Rattle.std.specs.List.{AllByRecursion as Each, list_any}
 use Rattle.gr_base.specs.Rising.{has}
 use Rattle.gr_base.specs.Places.{without_place}

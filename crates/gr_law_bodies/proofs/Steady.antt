@@ -1,6 +1,6 @@
 -- What the synchronous rounds give of the values of a committed state.
-use Rattle.std.proofs.Common.{◌≡◌, ℕ, ◌<◌, ◌^◌, List, [], ◌∷◌, Bool, true, false, ◌==◌, map, refl, sym, ap, ◌∙◌, subst, arith, ne_eqb, eqb-true}
-use Rattle.std.specs.Prelude.{IsTrue, length}
+use Rattle.std.proofs.Common.{◌≡◌, ℕ, ◌<◌, ◌^◌, List, [], ◌∷◌, true, false, ◌==◌, map, sym, subst, arith, ne_eqb, eqb-true}
+use Rattle.std.specs.Prelude.{IsTrue}
 use Rattle.std.specs.List.{All, AllByRecursion as Each}
 use Rattle.std.proofs.lemmas.Bool.{and_parts}
 use Rattle.std.proofs.lemmas.List.Elements.{All-cons, All-nil, All-head, All-tail}

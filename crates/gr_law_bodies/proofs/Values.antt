@@ -1,8 +1,8 @@
 -- The new values that a place computes and sends, where its rows, edges and batches are those of the committed state.
-use Rattle.std.proofs.Common.{◌≡◌, ℕ, List, [], ◌∷◌, Bool, true, false, not, ◌==◌, ◌&&◌, ◌||◌, nat_lt, map, filter, filter_map, refl, sym, ap, ◌∙◌, subst, Option, Some, None, if◌then◌else◌, eqb-true}
+use Rattle.std.proofs.Common.{◌≡◌, ℕ, List, [], ◌∷◌, Bool, true, false, not, ◌==◌, ◌&&◌, ◌||◌, map, filter_map, refl, sym, ap, ◌∙◌, Option, Some, None, if◌then◌else◌, eqb-true}
 use Rattle.std.specs.Prelude.{IsTrue, unwrap_or}
 use Rattle.std.specs.List.{AllByRecursion as Each, find}
-use Rattle.std.proofs.lemmas.Bool.{and_parts, both_ways, and_right}
+use Rattle.std.proofs.lemmas.Bool.{and_parts, both_ways}
 use Rattle.gr_base.specs.Rising.{has}
 use Rattle.gr_base.specs.Places.{without_place}
 use Rattle.gr_program.specs.declared.copy.VertexCopy.{VertexCopy}

@@ -1,3 +1,4 @@
+pub mod Barrier
 pub mod Commit
 pub mod Last
 pub mod Next

@@ -1,9 +1,8 @@
 -- A host set at one place, and what it leaves elsewhere.
-use Rattle.std.proofs.Common.{◌≡◌, ◌≢◌, ℕ, ◌<◌, length, refl, sym, ap, ◌∙◌, Option, Some, None, get_or-set_same, get_or-set_other, ⊎_elim, set, subst}
-use Rattle.std.specs.Prelude.{is_some, Bool}
+use Rattle.std.proofs.Common.{◌≡◌, ◌≢◌, ℕ, ◌<◌, length, sym, ap, ◌∙◌, Option, Some, None, get_or-set_same, get_or-set_other, ⊎_elim, set}
 use Rattle.std.proofs.lemmas.List.{get_or_past, set-get_or}
 use Rattle.std.proofs.lemmas.Bool.{cases_lt}
-use Rattle.gr_cluster.specs.Tables.{Host, Cluster, host, is_up, with_host}
+use Rattle.gr_cluster.specs.Tables.{Host, Cluster, host, with_host}
 use Rattle.gr_lists.proofs.Tests.{by_same}
 
 module _ {V A : Type 0} (c : Cluster V A) (p : ℕ) where

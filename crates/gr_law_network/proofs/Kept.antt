@@ -1,6 +1,6 @@
 -- A delivery and a drop keep the invariant.
-use Rattle.std.proofs.Common.{◌≡◌, ◌≢◌, ℕ, ◌+◌, ◌<◌, ◌≤◌, List, [], ◌∷◌, ◌++◌, Bool, true, false, ◌||◌, ◌==◌, refl, sym, ap, ◌∙◌, subst, arith, Option, Some, None, slice_get, remove, set, length, nat_lt, ltb-true, lt-ltb, ne_eqb}
-use Rattle.std.specs.Prelude.{is_some, is_none, IsTrue, option_map, ◌&&◌}
+use Rattle.std.proofs.Common.{◌≡◌, ℕ, ◌<◌, ◌≤◌, List, [], ◌∷◌, ◌++◌, Bool, true, false, ◌||◌, ◌==◌, refl, sym, ap, ◌∙◌, subst, arith, Option, Some, None, slice_get, remove, length, nat_lt, ltb-true, lt-ltb, ne_eqb}
+use Rattle.std.specs.Prelude.{is_some, IsTrue, option_map, ◌&&◌}
 use Rattle.std.specs.List.{list_any}
 use Rattle.std.proofs.lemmas.Bool.{and_left, and_right, or_right, cond-true}
 use Rattle.std.proofs.lemmas.List.{length-set}
@@ -13,7 +13,6 @@ use Rattle.gr_batch.specs.Bodies.{is_from, is_of}
 use Rattle.gr_sched.specs.declared.event.Event.TheVariants as event
 use Rattle.gr_view.specs.Modes.{is_over}
 use Rattle.gr_view.specs.Decisions.{parties}
-use Rattle.gr_rules.specs.Exchange.{needed}
 use Rattle.gr_cluster.specs.Tables.{Host, Cluster, host, is_up, log, with_host, effective, effective_arcs, view_of, wanted_in}
 use Rattle.gr_cluster.specs.Network.{received, delivered, dropped}
 use Rattle.gr_cluster.specs.Step.{step}
@@ -21,7 +20,6 @@ use Rattle.gr_agree.specs.Truth.{Truth}
 use Rattle.gr_agree.specs.Places.{Shaped, PlacesHold, sets_with}
 use Rattle.gr_agree.specs.Hosts.{HasNeeded, HostHolds, HostOpen, RebornHolds}
 use Rattle.gr_agree.specs.Agree.{Agree}
-use Rattle.gr_agree.specs.Laws.{IsCommittedSame, effective_rows, effective_edges}
 use Rattle.gr_law_network.specs.Law.{IsKept}
 use Rattle.gr_lists.proofs.Tests.{by_test, by_option}
 use Rattle.gr_law_network.proofs.Frame.{within, with_host-same, host-with_host, host-with_host-other, each-host, same-of-host}

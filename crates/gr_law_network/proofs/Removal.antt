@@ -1,5 +1,5 @@
 -- The batches, where one that binds nobody leaves the flight.
-use Rattle.std.proofs.Common.{◌≡◌, ℕ, ◌+◌, ◌<◌, ◌≤◌, List, Bool, true, false, cond, refl, sym, ap, ◌∙◌, arith, Option, Some, slice_get, remove}
+use Rattle.std.proofs.Common.{◌≡◌, ℕ, List, false, cond, ap, arith, Option, Some, slice_get, remove}
 use Rattle.std.specs.Prelude.{is_some, IsTrue}
 use Rattle.gr_program.specs.Program.{Program}
 use Rattle.gr_copies.specs.declared.view.RebuildView.{RebuildView}

@@ -1,8 +1,8 @@
 -- The batches, where one goes from the flight into the inbox of its receiver.
-use Rattle.std.proofs.Common.{◌≡◌, ◌≢◌, ℕ, ◌+◌, ◌<◌, ◌≤◌, List, [], ◌∷◌, ◌++◌, Bool, true, false, cond, ◌==◌, refl, sym, ap, ◌∙◌, subst, arith, Option, Some, None, slice_get, remove, ne_eqb, eq-eqb}
-use Rattle.std.specs.Prelude.{is_some, IsTrue, count_by}
+use Rattle.std.proofs.Common.{◌≡◌, ◌≢◌, ℕ, ◌≤◌, List, [], ◌∷◌, ◌++◌, true, cond, ◌==◌, refl, sym, ap, ◌∙◌, subst, arith, Option, Some, slice_get, remove, ne_eqb, eq-eqb}
+use Rattle.std.specs.Prelude.{is_some, count_by}
 use Rattle.std.specs.List.{AllByRecursion as Each}
-use Rattle.std.proofs.lemmas.Bool.{and_left, and_right}
+use Rattle.std.proofs.lemmas.Bool.{and_left}
 use Rattle.gr_program.specs.Program.{Program}
 use Rattle.gr_copies.specs.declared.view.RebuildView.{RebuildView}
 use Rattle.gr_batch.specs.declared.batch.Batch.{Batch}
@@ -12,7 +12,7 @@ use Rattle.gr_view.specs.declared.coordinator.Coordinator.{Coordinator}
 use Rattle.gr_cluster.specs.Tables.{Host, inbox_of}
 use Rattle.gr_agree.specs.Truth.{Truth}
 use Rattle.gr_agree.specs.Network.{BatchHolds, NetworkHolds, standing, is_shown}
-use Rattle.gr_lists.proofs.Tests.{by_test, by_same}
+use Rattle.gr_lists.proofs.Tests.{by_same}
 use Rattle.gr_lists.proofs.Counts.{count_by-remove, count_by-append, count_by-cons}
 use Rattle.gr_lists.proofs.Each.{Each-append, Each-remove, Each-get}
 

@@ -23,7 +23,7 @@ use Rattle.gr_law_bodies.proofs.Rows.{gathers_of}
 use Rattle.gr_law_round.proofs.Network.{of-parts}
 
 module _ {V A : Type 0} (P : Program V A) (w : RebuildView) (want : ℕ) (t : Truth V) (q p : ℕ) where
-  gather-true : (b : Body V A) → TrueBody P w want t q p b → 0 ≡ code_of (stage_of_body b) → b ≡ body.Gather (true_parts P t q p)
+  pub gather-true : (b : Body V A) → TrueBody P w want t q p b → 0 ≡ code_of (stage_of_body b) → b ≡ body.Gather (true_parts P t q p)
   gather-true (body.Gather xs) h e = ap body.Gather h
   gather-true (body.Update xs) h e = absurd (omega (arith, e))
   gather-true (body.Signal xs) h e = absurd (omega (arith, e))
@@ -31,7 +31,7 @@ module _ {V A : Type 0} (P : Program V A) (w : RebuildView) (want : ℕ) (t : Tr
   gather-true (body.Ask xs) h e = absurd (omega (arith, e))
   gather-true (body.Grant xs) h e = absurd (omega (arith, e))
 
-  values-true : (b : Body V A) → TrueBody P w want t q p b → 1 ≡ code_of (stage_of_body b) → values_of b ≡ true_values P t q p
+  pub values-true : (b : Body V A) → TrueBody P w want t q p b → 1 ≡ code_of (stage_of_body b) → values_of b ≡ true_values P t q p
   values-true (body.Update xs) h e = h
   values-true (body.Gather xs) h e = absurd (omega (arith, e))
   values-true (body.Signal xs) h e = absurd (omega (arith, e))
@@ -39,7 +39,7 @@ module _ {V A : Type 0} (P : Program V A) (w : RebuildView) (want : ℕ) (t : Tr
   values-true (body.Ask xs) h e = absurd (omega (arith, e))
   values-true (body.Grant xs) h e = absurd (omega (arith, e))
 
-  signals-true : (b : Body V A) → TrueBody P w want t q p b → 2 ≡ code_of (stage_of_body b) → signals_of b ≡ true_signals P t q p
+  pub signals-true : (b : Body V A) → TrueBody P w want t q p b → 2 ≡ code_of (stage_of_body b) → signals_of b ≡ true_signals P t q p
   signals-true (body.Signal xs) h e = h
   signals-true (body.Gather xs) h e = absurd (omega (arith, e))
   signals-true (body.Update xs) h e = absurd (omega (arith, e))
@@ -47,7 +47,7 @@ module _ {V A : Type 0} (P : Program V A) (w : RebuildView) (want : ℕ) (t : Tr
   signals-true (body.Ask xs) h e = absurd (omega (arith, e))
   signals-true (body.Grant xs) h e = absurd (omega (arith, e))
 
-  calls-true : (b : Body V A) → TrueBody P w want t q p b → 3 ≡ code_of (stage_of_body b) → calls_of b ≡ true_calls P t q p
+  pub calls-true : (b : Body V A) → TrueBody P w want t q p b → 3 ≡ code_of (stage_of_body b) → calls_of b ≡ true_calls P t q p
   calls-true (body.Call xs) h e = h
   calls-true (body.Gather xs) h e = absurd (omega (arith, e))
   calls-true (body.Update xs) h e = absurd (omega (arith, e))
@@ -58,7 +58,7 @@ module _ {V A : Type 0} (P : Program V A) (w : RebuildView) (want : ℕ) (t : Tr
 module _ {V A : Type 0} (P : Program V A) (w : RebuildView) (want : ℕ) (t : Truth V) (co : Coordinator) (p : ℕ) (inbox : List (Batch V A))
     (good : Each (λ b. BatchHolds P w want t co b × (b.receiver ≡ p)) inbox) where
   -- a batch of the epoch in the inbox holds the true body
-  true-there : (q : ℕ) (s : Stage) (b : Batch V A) → is_of q co.epoch s b ≡ true → BatchHolds P w want t co b × (b.receiver ≡ p) → TrueBody P w want t q p b.body × (code_of s ≡ code_of (stage_of_body b.body))
+  pub true-there : (q : ℕ) (s : Stage) (b : Batch V A) → is_of q co.epoch s b ≡ true → BatchHolds P w want t co b × (b.receiver ≡ p) → TrueBody P w want t q p b.body × (code_of s ≡ code_of (stage_of_body b.body))
   true-there q s b e h =
       let k = of-parts q co.epoch s b e in
       (subst (λ r. TrueBody P w want t q r b.body) h.1 (subst (λ r. TrueBody P w want t r b.receiver b.body) k.0 ((h.0).body k.1)), k.2)

@@ -1,5 +1,5 @@
 -- Whether some element passes a test.
-use Rattle.std.proofs.Common.{◌≡◌, ℕ, List, [], ◌∷◌, ◌++◌, Bool, true, false, not, ◌==◌, ◌&&◌, ◌||◌, filter, find, flat_map, refl, sym, ap, ◌∙◌, Option, Some, None, eq-eqb, eqb-true}
+use Rattle.std.proofs.Common.{◌≡◌, ℕ, List, [], ◌∷◌, ◌++◌, Bool, true, false, ◌==◌, ◌&&◌, ◌||◌, filter, find, flat_map, refl, sym, ap, ◌∙◌, Some, None, eq-eqb, eqb-true}
 use Rattle.std.specs.List.{AllByRecursion as Each, list_any}
 use Rattle.std.proofs.lemmas.Bool.{both_ways, and_right, or_left, or_right}
 use Rattle.gr_base.specs.Rising.{has}

@@ -1,5 +1,5 @@
 -- Truth values under conjunctions and disjunctions, and choices between values.
-use Rattle.std.proofs.Common.{◌≡◌, Bool, true, false, not, ◌&&◌, ◌||◌, refl, ap, Option, Some, None, if◌then◌else◌}
+use Rattle.std.proofs.Common.{◌≡◌, Bool, true, false, ◌&&◌, ◌||◌, refl, ap, Option, Some, None, if◌then◌else◌}
 
 pub and_true_right : (b : Bool) → (b && true) ≡ b
 and_true_right true = refl

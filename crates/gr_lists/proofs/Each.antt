@@ -1,5 +1,5 @@
 -- What each element of a list meets, through an append, a filter and a removal.
-use Rattle.std.proofs.Common.{◌≡◌, ℕ, zero, suc, List, [], ◌∷◌, ◌++◌, ◌==◌, Bool, true, filter, refl, Some, slice_get, remove, eq-eqb}
+use Rattle.std.proofs.Common.{◌≡◌, ℕ, zero, suc, List, [], ◌∷◌, ◌++◌, Bool, true, filter, refl, Some, slice_get, remove, eq-eqb}
 use Rattle.std.specs.List.{AllByRecursion as Each}
 use Rattle.std.proofs.lemmas.Bool.{or_left, or_right}
 use Rattle.gr_base.specs.Rising.{has}

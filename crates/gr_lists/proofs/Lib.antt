@@ -1,5 +1,6 @@
 pub mod Any
 pub mod Choices
+pub mod Chosen
 pub mod Counts
 pub mod Each
 pub mod Items

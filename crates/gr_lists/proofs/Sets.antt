@@ -1,12 +1,11 @@
 -- A set of places with one more place.
-use Rattle.std.proofs.Common.{◌≡◌, ◌<◌, ◌≤◌, ℕ, List, [], ◌∷◌, Bool, true, false, ◌==◌, ◌||◌, nat_lt, refl, sym, ap, ◌∙◌, subst, arith, eq-eqb, eqb-true, ne_eqb, ltb-true, ltb-false, lt-ltb, le-ltb}
+use Rattle.std.proofs.Common.{◌≡◌, ◌<◌, ℕ, List, [], ◌∷◌, Bool, true, false, ◌==◌, ◌||◌, nat_lt, refl, sym, ap, ◌∙◌, subst, arith, eq-eqb, ne_eqb, ltb-true, ltb-false, le-ltb}
 use Rattle.std.specs.List.{All}
-use Rattle.std.proofs.lemmas.Bool.{or_left, or_right}
 use Rattle.std.proofs.lemmas.List.Elements.{All-cons, All-nil, All-head, All-tail}
 use Rattle.gr_base.specs.Rising.{RisesBy, has, with_item}
 use Rattle.gr_base.specs.Places.{IsPlaces, with_place}
 use Rattle.gr_base.proofs.Rising.{with-rises}
-use Rattle.gr_lists.proofs.Tests.{by_test, by_same}
+use Rattle.gr_lists.proofs.Tests.{by_test}
 use Rattle.gr_lists.proofs.Choices.{or_false, or_true}
 
 pub has-with_place : (ps : List ℕ) (p r : ℕ) → has (with_place ps p) r ≡ (has ps r || (p == r))

@@ -1,6 +1,5 @@
 -- A body of another stage has none of the items of one.
 use Rattle.std.proofs.Common.{◌≡◌, ℕ, List, [], refl}
-use Rattle.gr_program.specs.declared.copy.VertexCopy.{VertexCopy}
 use Rattle.gr_batch.specs.declared.body.Part.{Part}
 use Rattle.gr_batch.specs.declared.body.NewValue.{NewValue}
 use Rattle.gr_batch.specs.declared.body.Body.{Body}

@@ -1,5 +1,5 @@
 -- What the stages of a round stage and send, by cases, and by the members of lists alone.
-use Rattle.std.proofs.Common.{◌≡◌, ◌∙◌, ℕ, Bool, List, [], ◌∷◌, map, get_or, refl, sym, ap}
+use Rattle.std.proofs.Common.{◌≡◌, ◌∙◌, ℕ, List, [], ◌∷◌, map, get_or, refl, ap}
 use Rattle.std.specs.Prelude.{◌&&◌, ◌==◌}
 use Rattle.gr_base.specs.Rising.{has}
 use Rattle.gr_base.specs.declared.records.NumberedEdge.{NumberedEdge}

@@ -1,23 +1,21 @@
 -- Sums joined with the parts of one sender more.
-use Rattle.std.proofs.Common.{◌≡◌, ◌∙◌, ◌<◌, ◌+◌, ℕ, Bool, true, false, eqb, ltb, List, [], ◌∷◌, ◌++◌, length, Option, Some, None, refl, sym, ap, arith}
+use Rattle.std.proofs.Common.{◌≡◌, ◌∙◌, ℕ, eqb, List, [], ◌∷◌, ◌++◌, Option, Some, None, refl, sym, ap}
 use Rattle.std.specs.Prelude.{flat_map, option_map}
-use Rattle.std.specs.List.{All, filter, filter_map, find, fold, cons_option}
+use Rattle.std.specs.List.{filter_map, find, fold, cons_option}
 use Rattle.std.proofs.lemmas.List.Elements.{filter_map-append}
 use Rattle.std.proofs.lemmas.List.Sums.{fold-append}
-use Rattle.gr_base.specs.Rising.{RisesBy, has}
 use Rattle.gr_base.specs.declared.records.NumberedEdge.{NumberedEdge}
 use Rattle.gr_program.specs.declared.copy.VertexCopy.{VertexCopy}
 use Rattle.gr_program.specs.Program.{Program}
 use Rattle.gr_batch.specs.declared.batch.Batch.{Batch}
 use Rattle.gr_batch.specs.declared.body.Body.{Body}
 use Rattle.gr_batch.specs.declared.body.Part.{Part}
-use Rattle.gr_batch.specs.declared.stage.Stage.{Stage}
 use Rattle.gr_batch.specs.declared.stage.Stage.TheVariants as stage
 use Rattle.gr_batch.specs.Bodies.{is_of, parts_of}
 use Rattle.gr_rules.specs.Inbox.{bodies}
 use Rattle.gr_rules.specs.Round.{part_for, own_sum, whole_sum}
 use Rattle.gr_high.specs.Parts.{with_part}
-use Rattle.gr_round.proofs.Senders.{items-some, items-none, bodies-some, bodies-absent, bodies-passed, bodies-skipped, bodies-none, bodies-all}
+use Rattle.gr_round.proofs.Senders.{items-some, items-none, bodies-some, bodies-absent}
 
 module _ {V A : Type 0} (P : Program V A) (v : ℕ) where
   -- a sum joined with the parts of some bodies, in their order

@@ -13,7 +13,6 @@ use Rattle.gr_round.specs.declared.act.Act.{Act}
 use Rattle.gr_round.specs.declared.act.Act.TheVariants as act
 use Rattle.gr_round.specs.declared.view.RoundView.{RoundView}
 use Rattle.gr_round.specs.Line.{RoundLine}
-use Rattle.gr_round.specs.Todo.{next_at}
 
 -- the line once a stage is computed, or the place has reported
 abbrev pub line_after : List ℕ → RoundLine → Todo → RoundLine

@@ -46,7 +46,8 @@ impl PlaceRound {
     /// `Ready`, where each computed stage other than the end has a party left to send to, as `note_sent` leaves it.
     /// These three take no memory and are never refused.
     ///
-    /// A batch costs what computing its items costs, from the copies, the edges and the inbox; nothing is kept of it.
+    /// Nothing that was computed is kept: the new values of the due vertices that the place masters, each a sum over the
+    /// edges into it, are computed once for the staging and once for each batch from Update on.
     ///
     /// # Errors
     ///

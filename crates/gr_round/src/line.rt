@@ -178,6 +178,7 @@ fn passed_line(left: Option<u8>, stage: Stage, sent: PlaceSet) -> PlaceRound
 pub(crate) fn others_of(parties: PlaceSet, me: u8) -> PlaceSet
     ensures { result ≡ without_place parties me }
 {
+    // A look into the set tells that its places are below 64.
     let _places = parties.has(0);
     if me < 64 {
         parties.without(me)

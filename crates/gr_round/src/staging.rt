@@ -66,6 +66,7 @@ fn stage_sent<V: Datum, A: Datum>(party: &Party, rows: &mut Rows<V>, inbox: &Inb
     requires pending { map vertex_of rows.old.pending ≡ map vertex_of rows.old.stable }
     ensures { rows.new ≡ record rows.old { pending = with_values (flat_map values_of (bodies inbox.now party.now.epoch Stage.Update party.now.others)) rows.old.pending } }
 {
+    // A look into the set tells that its places rise and are below 64.
     let _places = party.others.has(0);
     for k in 0..64u8 {
         let p = 63 - k;

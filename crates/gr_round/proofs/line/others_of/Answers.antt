@@ -1,4 +1,4 @@
-use Rattle.std.proofs.Common.{ℕ, not, eqb, sym, ap, arith}
+use Rattle.std.proofs.Common.{not, eqb, sym, ap, arith}
 use Rattle.std.proofs.lemmas.Bool.{ne_eqb}
 use Rattle.gr_copies.proofs.Selecting.{filter-all}
 use Rattle.gr_round.proofs.line.others_of.Goals as goal

@@ -1,9 +1,7 @@
-use Rattle.std.proofs.Common.{◌≡◌, ◌∙◌, ◌<◌, ◌+◌, ◌||◌, ◌&&◌, ◌∷◌, [], ℕ, eqb, sym, ap, subst, arith}
-use Rattle.std.specs.Prelude.{flat_map}
+use Rattle.std.proofs.Common.{◌≡◌, ◌∙◌, ◌||◌, ℕ, eqb, sym, ap, subst, arith}
 use Rattle.gr_base.specs.Rising.{RisesBy, has}
 use Rattle.gr_batch.specs.declared.stage.Stage.TheVariants as stage
 use Rattle.gr_batch.specs.Bodies.{calls_of}
-use Rattle.gr_rules.specs.Inbox.{bodies}
 use Rattle.gr_rules.specs.AtPlace.{own_next}
 use Rattle.gr_round.proofs.Known.{below-none, below-passed, below-skipped, below-all, passes_below}
 use Rattle.gr_round.proofs.Senders.{fits-one, items-fit}

@@ -1,8 +1,8 @@
-use Rattle.std.proofs.Common.{◌≡◌, ◌∙◌, ◌<◌, ◌+◌, ◌-◌, ◌++◌, ◌∷◌, [], ℕ, ltb, map, List, sym, ap, subst, arith}
+use Rattle.std.proofs.Common.{◌≡◌, ◌∙◌, ◌+◌, ◌-◌, ◌++◌, ◌∷◌, [], ℕ, ltb, map, List, sym, ap, subst, arith}
 use Rattle.std.specs.Prelude.{flat_map, not, IsSome}
 use Rattle.std.specs.List.{All, filter}
 use Rattle.std.proofs.lemmas.Grind.{flat_map-append}
-use Rattle.gr_base.specs.Rising.{RisesBy, has}
+use Rattle.gr_base.specs.Rising.{RisesBy}
 use Rattle.gr_batch.specs.declared.body.NewValue.{NewValue}
 use Rattle.gr_batch.specs.declared.stage.Stage.TheVariants as stage
 use Rattle.gr_batch.specs.Bodies.{values_of}

@@ -1,5 +1,5 @@
-use Rattle.std.proofs.Common.{◌≡◌, ◌∙◌, ◌<◌, ◌+◌, ◌∷◌, [], eqb, ltb, sym, ap, subst, arith}
-use Rattle.std.specs.Prelude.{IsSomeAnd, IsTrue, flat_map}
+use Rattle.std.proofs.Common.{◌≡◌, ◌∙◌, ◌∷◌, [], eqb, ltb, sym, ap, subst, arith}
+use Rattle.std.specs.Prelude.{IsSomeAnd, IsTrue}
 use Rattle.std.specs.List.{All, filter, find}
 use Rattle.std.proofs.lemmas.List.Elements.{All-filter}
 use Rattle.gr_base.specs.Rising.{RisesBy}
