@@ -3,6 +3,8 @@ ghost use Rattle.gr_base.specs.Places.{below};
 ghost use Rattle.gr_cluster.specs.Tables.{is_up};
 ghost use Rattle.gr_core.specs.Tables as tables;
 
+mod network;
+
 use crate::host::Host;
 use gr_base::PlaceSet;
 use gr_flight::Flight;
