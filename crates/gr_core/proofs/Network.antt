@@ -121,3 +121,11 @@ module _ {V A E : Type 0} (P : Program V A) (c : Cluster V A) (i : ℕ) (r : Res
       of : (r : Result (Outcome V A) E) → OnErr r (hs ≡ c.hosts) → OnErr r (fl ≡ c.flight) → OnErr r (record c { hosts = hs; flight = fl } ≡ c)
       of (Ok o) a b = tt
       of (Err e) a b = λ j. record c { hosts = a j; flight = b j }
+
+module _ {V A : Type 0} (P : Program V A) (c : Cluster V A) (i : ℕ) (over : is_over c.coordinator.mode ≡ false) where
+  pub drop-idle : may_drop c (slice_get c.flight i) ≡ false → (c, outcome.Idle) ≡ step P c (event.Discarded i)
+  drop-idle kept = sym (step-taken P c (event.Discarded i) over ∙ dropped-kept P c i (slice_get c.flight i) kept)
+
+  pub drop-step : (fl : List (Batch V A)) (r : Outcome V A) → may_drop c (slice_get c.flight i) ≡ true → fl ≡ remove c.flight i
+      → ((b : Batch V A) → slice_get c.flight i ≡ Some b → r ≡ outcome.Dropped b.serial) → (record c { flight = fl }, r) ≡ step P c (event.Discarded i)
+  drop-step fl r may rest told = (λ j. (record c { flight = rest j }, r)) ∙ sym (step-taken P c (event.Discarded i) over ∙ dropped-gone P c i (slice_get c.flight i) r may told)

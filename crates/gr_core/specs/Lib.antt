@@ -1,3 +1,5 @@
 pub mod Loaded
 pub mod Steps
 pub mod Tables
+pub mod Turns
+pub mod Works

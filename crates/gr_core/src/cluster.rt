@@ -4,6 +4,7 @@ ghost use Rattle.gr_cluster.specs.Tables.{is_up};
 ghost use Rattle.gr_core.specs.Tables as tables;
 
 mod network;
+mod work;
 
 use crate::host::Host;
 use gr_base::PlaceSet;

@@ -16,8 +16,10 @@ ghost use Rattle.gr_cluster.specs.Network.{fate_at, received};
 ghost use Rattle.gr_cluster.specs.Work.{installed_host, adopted_host, sent_host};
 ghost use Rattle.gr_core.specs.Steps.{next_of, answer_of, acted_host};
 ghost use Rattle.gr_core.specs.Tables.{copy_in};
+ghost use Rattle.gr_core.specs.Turns.{turn_of};
 
 use crate::rebuild_line::RebuildLine;
+use crate::turn::{Turn, is_round};
 use gr_arcs::Arcs;
 use gr_base::{OutOfMemory, PlaceSet};
 use gr_batch::{Batch, Fate, copy_of};
@@ -25,6 +27,7 @@ use gr_flight::Inbox;
 use gr_program::{VertexCopy, VertexProgram};
 use gr_round::{Act, PlaceRound, RoundView};
 use gr_rows::Rows;
+use gr_view::Coordinator;
 use std::alloc::Global;
 use std::marker::Model;
 
@@ -110,14 +113,33 @@ impl<P: VertexProgram> Host<P> {
         Ok(Fate::Taken)
     }
 
-    // What is pending takes effect.
-    pub(crate) fn install(&mut self)
+    // Which part of its work comes next.
+    pub(crate) fn turn(&self, coordinator: &Coordinator) -> Turn
+        ensures { result ≡ turn_of coordinator.now (Some self.now) }
+    {
+        if self.installed < coordinator.commits {
+            return Turn::Install;
+        }
+        if self.epoch < coordinator.epoch {
+            return Turn::Adopt;
+        }
+        if is_round(coordinator.mode) {
+            Turn::Act
+        } else {
+            Turn::Rest
+        }
+    }
+
+    // What is pending takes effect. It gives how many commits are installed then.
+    pub(crate) fn install(&mut self) -> u64
         requires { self.old.installed < 2 ^ 64 - 1 }
-        ensures { self.new ≡ installed_host self.old }
+        ensures host { self.new ≡ installed_host self.old }
+        ensures count { result ≡ self.old.installed + 1 }
     {
         self.rows.install();
         self.arcs.install();
         self.installed += 1;
+        self.installed
     }
 
     // A new epoch is adopted, in which no rebuild is open.

@@ -4,6 +4,7 @@
 mod cluster;
 mod host;
 mod rebuild_line;
+mod turn;
 
 pub use cluster::Cluster;
 pub use host::Host;
