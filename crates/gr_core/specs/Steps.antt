@@ -1,9 +1,13 @@
 -- What the step of a cluster asks of a batch, and what a place does in a round, by its host.
-use Rattle.std.specs.Prelude.{ℕ, Bool, false, ◌||◌, nat_lt, Option, Some, None, is_none}
+use Rattle.std.specs.Prelude.{ℕ, Bool, true, false, ◌||◌, nat_lt, Option, Some, None, is_none}
 use Rattle.gr_base.specs.Places.{without_place}
 use Rattle.gr_program.specs.Program.{Program}
 use Rattle.gr_rows.specs.Layers.{CopyLayers}
 use Rattle.gr_batch.specs.declared.batch.Batch.{Batch}
+use Rattle.gr_batch.specs.declared.outcome.Outcome.{Outcome}
+use Rattle.gr_batch.specs.declared.outcome.Outcome.TheVariants as outcome
+use Rattle.gr_view.specs.declared.coordinator.Verdict.{Verdict}
+use Rattle.gr_view.specs.declared.coordinator.Verdict.TheVariants as verdict
 use Rattle.gr_rules.specs.Todo.{Todo}
 use Rattle.gr_round.specs.declared.act.Act.{Act}
 use Rattle.gr_round.specs.declared.view.RoundView.{RoundView}
@@ -41,3 +45,17 @@ module _ {V A : Type 0} where
 
     abbrev pub acted_host : Todo → Host V A
     acted_host x = in_line (line_after (without_place w.parties p) (line_of h) x) (record h { pending = pending_after P p w h.inbox h.arcs (line_of h) (copies_of h) x })
+
+-- a stage is computed, a batch sent or delivered with memory alone; all else takes none
+abbrev pub takes_memory : {V A : Type 0} → Outcome V A → Bool
+takes_memory (outcome.Computed s) = true
+takes_memory (outcome.Sent n s q) = true
+takes_memory (outcome.Delivered b f) = true
+takes_memory _ = false
+
+-- the outcome of a barrier that finds no place down, by the verdict of the coordinator
+abbrev pub told_of : {V A : Type 0} → Verdict → Outcome V A
+told_of (verdict.Failed ps) = outcome.Failed ps
+told_of (verdict.Committed n r d) = outcome.Committed n r d
+told_of (verdict.NotReady p) = outcome.NotReady p
+told_of verdict.Idle = outcome.Idle

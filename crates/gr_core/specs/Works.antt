@@ -1,9 +1,11 @@
 -- What the work of a place in a round needs, by its host.
-use Rattle.std.specs.Prelude.{ℕ, ◌≡◌, ◌<◌, ◌+◌, ◌^◌, false, not, IsTrue, IsSome, List, map, length}
+use Rattle.std.specs.Prelude.{ℕ, ◌≡◌, ◌<◌, ◌+◌, ◌^◌, false, not, IsTrue, IsSome, List, Option, map, length}
 use Rattle.gr_base.specs.Rising.{has}
 use Rattle.gr_base.specs.Places.{without_place}
 use Rattle.gr_program.specs.Program.{Program}
 use Rattle.gr_rows.specs.Layers.{vertex_of}
+use Rattle.gr_log.specs.Log.{Log}
+use Rattle.gr_batch.specs.declared.batch.Batch.{Batch}
 use Rattle.gr_batch.specs.Stages.{is_end}
 use Rattle.gr_view.specs.declared.coordinator.Coordinator.{Coordinator}
 use Rattle.gr_view.specs.declared.coordinator.Mode.TheVariants as mode
@@ -15,7 +17,7 @@ use Rattle.gr_low.specs.Sources.{SourcesReady}
 use Rattle.gr_round.specs.declared.view.RoundView.{RoundView}
 use Rattle.gr_round.specs.Line.{is_of_round}
 use Rattle.gr_round.specs.Needs.{ValuesFit, GathersFit, UpdatesFit, SignalsRise, CallsRise}
-use Rattle.gr_cluster.specs.Tables.{Host}
+use Rattle.gr_cluster.specs.Tables.{Host, Cluster}
 use Rattle.gr_cluster.specs.Todo.{todo}
 use Rattle.gr_law_needs.specs.Law.{MayAct}
 
@@ -50,3 +52,16 @@ pub record MayWork {V A : Type 0} (P : Program V A) (co : Coordinator) (p : ℕ)
   pub stage : IsTrue (is_of_round h.stage)
   pub needs : MayAct P co p h
   pub report : todo co p h ≡ Todo.Report → MayReport co p (due_count p h.pending)
+
+-- a cluster by its parts
+abbrev pub cluster_of : {V A : Type 0} → List (Option (Host V A)) → List Log → List (Batch V A) → ℕ → Coordinator → ℕ → ℕ → ℕ → Cluster V A
+cluster_of hosts logs flight serial co places losses theta = record {
+  hosts = hosts;
+  logs = logs;
+  flight = flight;
+  serial = serial;
+  coordinator = co;
+  places = places;
+  losses = losses;
+  theta = theta;
+}

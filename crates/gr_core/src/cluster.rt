@@ -3,6 +3,7 @@ ghost use Rattle.gr_base.specs.Places.{below};
 ghost use Rattle.gr_cluster.specs.Tables.{is_up};
 ghost use Rattle.gr_core.specs.Tables as tables;
 
+mod barrier;
 mod network;
 mod work;
 

@@ -1,4 +1,4 @@
-ghost use Rattle.std.specs.Prelude.{◌≡◌, ℕ, IsSome, ◌<◌, ◌-◌, ◌+◌, ◌^◌, false, ◌∷◌, [], ◌++◌, length, get_or, set, option_map, None, Some, IfOk, IsOk, OnOk, OnErr, IfSome, IsTrue, not};
+ghost use Rattle.std.specs.Prelude.{◌≡◌, ℕ, List, IsSome, ◌<◌, ◌-◌, ◌+◌, ◌^◌, false, ◌∷◌, [], ◌++◌, length, get_or, set, option_map, None, Some, IfOk, IsOk, OnOk, OnErr, IfSome, IsTrue, not};
 ghost use Rattle.gr_base.specs.Places.{without_place};
 ghost use Rattle.gr_base.specs.Rising.{has as is_in};
 ghost use Rattle.gr_batch.specs.Bodies.{stage_of_body};
@@ -7,7 +7,7 @@ ghost use Rattle.gr_batch.specs.declared.outcome.Outcome.TheVariants as outcome;
 ghost use Rattle.gr_sched.specs.declared.event.Event.TheVariants as event;
 ghost use Rattle.gr_view.specs.declared.coordinator.Mode.{Mode};
 ghost use Rattle.gr_view.specs.Modes.{is_over, is_rebuild};
-ghost use Rattle.gr_log.specs.Log.{cut_log};
+ghost use Rattle.gr_log.specs.Log.{Log, cut_log};
 ghost use Rattle.gr_rules.specs.Taken.{log_at};
 ghost use Rattle.gr_rules.specs.Exchange.{unsent};
 ghost use Rattle.gr_rules.specs.Todo.{Todo};
@@ -15,15 +15,14 @@ ghost use Rattle.gr_rules.specs.AtPlace.{due_count};
 ghost use Rattle.gr_round.specs.Line.{is_of_round};
 ghost use Rattle.gr_round.specs.Todo.{is_told};
 ghost use Rattle.gr_view.specs.Decisions.{parties};
-ghost use Rattle.gr_cluster.specs.Tables as cluster;
-ghost use Rattle.gr_cluster.specs.Tables.{Host as Held, host, with_host};
+ghost use Rattle.gr_cluster.specs.Tables.{Host as Held, host};
 ghost use Rattle.gr_cluster.specs.Todo.{todo};
 ghost use Rattle.gr_cluster.specs.Work.{installed_host, adopted_host, sent_host, worked};
 ghost use Rattle.gr_cluster.specs.Step.{step};
 ghost use Rattle.gr_core.specs.declared.turn.Turn.TheVariants as turn;
-ghost use Rattle.gr_core.specs.Steps.{next_of, answer_of, acted_host};
+ghost use Rattle.gr_core.specs.Steps.{next_of, answer_of, acted_host, takes_memory};
 ghost use Rattle.gr_core.specs.Turns.{turn_of};
-ghost use Rattle.gr_core.specs.Works.{NeedsHold, MaySend, MayWork};
+ghost use Rattle.gr_core.specs.Works.{NeedsHold, MaySend, MayWork, cluster_of};
 
 use crate::cluster::Cluster;
 use crate::host::Host;
@@ -38,6 +37,46 @@ use gr_view::Coordinator;
 use std::alloc::Global;
 
 impl<P: VertexProgram> Cluster<P> {
+    // What comes next at a place is done there, where no rebuild is open.
+    pub(crate) fn work(&mut self, p: u8) -> Result<Outcome<P::Value, P::Acc>, OutOfMemory>
+        requires place { p < self.old.cluster.places }
+        requires going { is_over self.old.cluster.coordinator.mode ≡ false }
+        requires no_rebuild { is_rebuild self.old.cluster.coordinator.mode ≡ false }
+        requires flight { length self.old.cluster.flight < 2 ^ 32 - 1 }
+        requires serial { self.old.cluster.serial < 2 ^ 64 - 1 }
+        ensures ok { IfOk result (λ outcome. (self.new.cluster, outcome) ≡ step (P.program_of self.old.program) self.old.cluster (event.Work p)) }
+        ensures program { self.new.program ≡ self.old.program }
+        ensures err { OnErr result (self.new ≡ self.old) }
+        ensures told { takes_memory (step (P.program_of self.old.program) self.old.cluster (event.Work p)).1 ≡ false → IsOk result }
+    {
+        match self.turn_at(p) {
+            Turn::Rest => Ok(self.rest_at(p)),
+            Turn::Install => Ok(self.install_at(p)),
+            Turn::Adopt => Ok(self.adopt_at(p)),
+            Turn::Act => self.act_at(p),
+        }
+    }
+
+    // Which part of its work comes next at a place.
+    fn turn_at(&self, p: u8) -> Turn
+        requires { p < self.now.cluster.places }
+        ensures { result ≡ turn_of self.now.cluster.coordinator (host self.now.cluster p) }
+    {
+        let _count = self.places();
+        turn_of(&self.coordinator, &self.hosts[usize::from(p)])
+    }
+
+    // A place does nothing: its machine is down, or it waits for a recovery.
+    fn rest_at(&self, p: u8) -> Outcome<P::Value, P::Acc>
+        requires going { is_over self.now.cluster.coordinator.mode ≡ false }
+        requires no_rebuild { is_rebuild self.now.cluster.coordinator.mode ≡ false }
+        requires turn { turn_of self.now.cluster.coordinator (host self.now.cluster p) ≡ turn.Rest }
+        ensures { (self.now.cluster, result) ≡ step (P.program_of self.now.program) self.now.cluster (event.Work p) }
+    {
+        let _count = self.places();
+        Outcome::Idle
+    }
+
     // A place installs what is pending.
     fn install_at(&mut self, p: u8) -> Outcome<P::Value, P::Acc>
         requires place { p < self.old.cluster.places }
@@ -75,7 +114,7 @@ impl<P: VertexProgram> Cluster<P> {
         ensures ok { IfOk result (λ outcome. (self.new.cluster, outcome) ≡ step (P.program_of self.old.program) self.old.cluster (event.Work p)) }
         ensures program { self.new.program ≡ self.old.program }
         ensures err { OnErr result (self.new ≡ self.old) }
-        ensures told { (h : Held P.Value P.Acc) → host self.old.cluster p ≡ Some h → IsTrue (is_told (todo self.old.cluster.coordinator p h)) → IsOk result }
+        ensures told { takes_memory (step (P.program_of self.old.program) self.old.cluster (event.Work p)).1 ≡ false → IsOk result }
     {
         act_in_round(
             self.alloc,
@@ -163,8 +202,9 @@ fn act_in_round<P: VertexProgram>(
     requires up { IsSome (get_or hosts.old.items p None) }
     requires room { length flight.old < 2 ^ 32 - 1 }
     requires serial { serial.old < 2 ^ 64 - 1 }
-    ensures ok { IfOk result (λ outcome. (k : cluster.Cluster P.Value P.Acc) (h : Held P.Value P.Acc) → get_or hosts.old.items p None ≡ Some h → k.hosts ≡ hosts.old.items → k.flight ≡ flight.old → k.serial ≡ serial.old → k.coordinator ≡ coordinator.old → k.theta ≡ theta
-        → (record k { hosts = hosts.new.items; flight = flight.new; serial = serial.new; coordinator = coordinator.new }, outcome) ≡ worked (P.program_of program.now) k p h (todo k.coordinator p h)) }
+    ensures ok { (logs : List Log) (places losses : ℕ) (h : Held P.Value P.Acc) → get_or hosts.old.items p None ≡ Some h
+        → IfOk result (λ outcome. (cluster_of hosts.new.items logs flight.new serial.new coordinator.new places losses theta, outcome)
+            ≡ worked (P.program_of program.now) (cluster_of hosts.old.items logs flight.old serial.old coordinator.old places losses theta) p h (todo coordinator.old p h)) }
     ensures told { (h : Held P.Value P.Acc) → get_or hosts.old.items p None ≡ Some h → IsTrue (is_told (todo coordinator.old p h)) → IsOk result }
     ensures hosts_kept { OnErr result (hosts.new.items ≡ hosts.old.items) }
     ensures flight_kept { OnErr result (flight.new ≡ flight.old) }
@@ -203,7 +243,7 @@ fn send<P: VertexProgram>(
     requires line { IfSome (get_or hosts.old.items p None) (λ h. MaySend (without_place parties p) h) }
     requires room { length flight.old < 2 ^ 32 - 1 }
     requires serial { serial.old < 2 ^ 64 - 1 }
-    ensures ok { IfOk result (λ outcome. outcome ≡ outcome.Sent serial.old (stage_of_body batch.body) batch.receiver) }
+    ensures ok { IfOk result (λ told. told ≡ outcome.Sent serial.old (stage_of_body batch.body) batch.receiver) }
     ensures hosts { OnOk result ((h : Held P.Value P.Acc) (q : ℕ) → get_or hosts.old.items p None ≡ Some h → unsent (without_place parties p) h.sent ≡ Some q → hosts.new.items ≡ set hosts.old.items p (Some (sent_host (without_place parties p) q h))) }
     ensures flight { OnOk result (flight.new ≡ flight.old ++ batch ∷ []) }
     ensures serial { OnOk result (serial.new ≡ serial.old + 1) }

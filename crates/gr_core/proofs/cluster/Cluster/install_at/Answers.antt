@@ -18,7 +18,7 @@ invariant_of-self g c =
     let none : is_rebuild k.coordinator.mode ≡ false = ap (λ x. is_rebuild x.cluster.coordinator.mode) c.self.view_is ∙ c.requires.no_rebuild in
     let next : turn_of k.coordinator (host k c.args.p) ≡ turn.Install = ap (λ x. turn_of x.cluster.coordinator (host x.cluster c.args.p)) c.self.view_is ∙ c.requires.turn in
     let is = install-step P k c.args.p over c.install.new.hosts.items c.install.result next c.install.ensures.hosts c.install.ensures.count in
-    subst (λ x. Invariant P x.0) (sym is) (work-invariant P k c.args.p over (g.P.VertexProgram.laws s.program) none c.self.invariant)
+    subst (λ x. Invariant P x.0) (sym is) (work-invariant P k c.args.p over (g.met.P.VertexProgram.laws s.program) none c.self.invariant)
 
 pub returns-clause-step : goal.returns-clause-step
 returns-clause-step g c =
