@@ -1,6 +1,6 @@
 -- What a place does in a round is what the step of the cluster makes of it.
-use Rattle.std.proofs.Common.{◌≡◌, ℕ, ◌+◌, ◌<◌, ◌≤◌, List, [], ◌∷◌, ◌++◌, Bool, true, false, refl, sym, ap, ◌∙◌, subst, arith, Option, Some, None, get_or, set, Result, Ok, Err}
-use Rattle.std.specs.Prelude.{IsTrue, IsSome, is_some, IfOk, OnOk, OnErr}
+use Rattle.std.proofs.Common.{◌≡◌, ℕ, ◌+◌, ◌<◌, ◌≤◌, List, [], ◌∷◌, ◌++◌, Bool, true, false, refl, sym, ap, ◌∙◌, subst, arith, Option, Some, None, get_or, set, length, ◌^◌, Result, Ok, Err}
+use Rattle.std.specs.Prelude.{IsTrue, IsSome, IfSome, is_some, IfOk, OnOk, OnErr}
 use Rattle.gr_base.specs.declared.records.NumberedEdge.{NumberedEdge}
 use Rattle.gr_base.specs.Places.{without_place}
 use Rattle.gr_program.specs.declared.copy.VertexCopy.{VertexCopy}
@@ -30,10 +30,11 @@ use Rattle.gr_cluster.specs.Tables.{Host, Cluster, host, with_host}
 use Rattle.gr_cluster.specs.Todo.{others, todo}
 use Rattle.gr_cluster.specs.Place.{staged_rows, staged_arcs, batch_to, body_to}
 use Rattle.gr_cluster.specs.Work.{computed_host, sent_host, worked}
+use Rattle.std.proofs.lemmas.List.{length-set}
 use Rattle.gr_law_network.proofs.Frame.{with_host-same}
 use Rattle.gr_law_round.proofs.Todo.{case-todo}
 use Rattle.gr_core.specs.Steps.{line_of, copies_of, next_of, answer_of, acted_host, takes_memory}
-use Rattle.gr_core.specs.Works.{MayWork, MaySend}
+use Rattle.gr_core.specs.Works.{MayWork, MaySend, MayReport, NeedsHold}
 
 -- a stage of a round has the body of a round
 module _ {V A : Type 0} (P : Program V A) (k : Cluster V A) (p : ℕ) (h : Host V A) where
@@ -152,7 +153,7 @@ module _ {V A : Type 0} (P : Program V A) (co : Coordinator) (p : ℕ) (h : Host
 
 -- the cluster after what it does
 module _ {V A : Type 0} (P : Program V A) (k : Cluster V A) (p : ℕ) (h : Host V A) (M : MayWork P k.coordinator p h) where
-  abbrev view : RoundView
+  abbrev pub view : RoundView
   view = record { epoch = k.coordinator.epoch; round = k.coordinator.round; parties = parties k.coordinator; serial = k.serial; theta = k.theta }
 
   none' : is_rebuild k.coordinator.mode ≡ false
@@ -274,3 +275,52 @@ module _ {V A E : Type 0} (k : Cluster V A) (hs : List (Option (Host V A))) (fl 
       → OnErr r (record k { hosts = hs; flight = fl; serial = n; coordinator = co } ≡ k)
   OnErr-all (Ok o) a b c d = tt
   OnErr-all (Err e) a b c d = λ j. record k { hosts = a j; flight = b j; serial = c j; coordinator = d j }
+
+pub record Up {X : Type 0} (o : Option X) : Type 0 where
+  pub it : X
+  pub is : o ≡ Some it
+
+pub up-is : {X : Type 0} (o : Option X) → IsSome o → Up o
+up-is None s = absurd (let bad : false ≡ true = s in cc)
+up-is (Some x) s = record { it = x; is = refl }
+
+pub OnErr-then : {X E Y : Type 0} (r : Result X E) (a b c : Y) → b ≡ c → OnErr r (a ≡ b) → OnErr r (a ≡ c)
+OnErr-then (Ok o) a b c e is = tt
+OnErr-then (Err o) a b c e is = is ∙ e
+
+-- what the work of a place needs, where the parties have another name
+pub needs-here : {V A : Type 0} (P : Program V A) (co : Coordinator) (p : ℕ) (h : Host V A) (serial theta : ℕ) (ps : List ℕ) → ps ≡ parties co → MayWork P co p h
+    → NeedsHold P p (record { epoch = co.epoch; round = co.round; parties = ps; serial = serial; theta = theta }) h
+needs-here P co p h serial theta ps is M = let N = M.needs in
+    subst (λ qs. NeedsHold P p (record { epoch = co.epoch; round = co.round; parties = qs; serial = serial; theta = theta }) h) (sym is)
+    (record { sources = N.sources; values = N.values; gathers = N.gathers; updates = N.updates; signals = N.signals; calls = N.calls; pending = N.pending; few = N.few })
+
+module _ {V A : Type 0} (P : Program V A) (k : Cluster V A) (p : ℕ) (h : Host V A) (M : MayWork P k.coordinator p h) (at : host k p ≡ Some h) (ps : List ℕ) (parties_is : ps ≡ parties k.coordinator) where
+  abbrev seen : List ℕ → RoundView
+  seen qs = record { epoch = k.coordinator.epoch; round = k.coordinator.round; parties = qs; serial = k.serial; theta = k.theta }
+
+  pub answer-seen : (x y : Act V A) → y ≡ x → y ≡ answer_of P p (seen ps) h (next_of p (seen ps) h) → x ≡ answer_of P p (view P k p h M) h (next_of p (view P k p h M) h)
+  answer-seen x y same is = subst (λ qs. x ≡ answer_of P p (seen qs) h (next_of p (seen qs) h)) parties_is (sym same ∙ is)
+
+  pub hosts-seen : (hs : List (Option (Host V A))) → hs ≡ set k.hosts p (Some (acted_host P p (seen ps) h (next_of p (seen ps) h)))
+      → hs ≡ set k.hosts p (Some (acted_host P p (view P k p h M) h (next_of p (view P k p h M) h)))
+  hosts-seen hs is = subst (λ qs. hs ≡ set k.hosts p (Some (acted_host P p (seen qs) h (next_of p (seen qs) h)))) parties_is is
+
+  pub report-fits : (n : ℕ) → act.Ready n ≡ answer_of P p (view P k p h M) h (next_of p (view P k p h M) h) → MayReport k.coordinator p n
+  report-fits n answer = let I = ready-next P k p h M at n answer in subst (MayReport k.coordinator p) I.1 (M.report I.0)
+
+  module _ (hs : List (Option (Host V A))) (b : Batch V A) (answer : act.Sent b ≡ answer_of P p (view P k p h M) h (next_of p (view P k p h M) h)) (same : hs ≡ k.hosts) where
+    pub line-fits : IfSome (get_or hs p None) (λ g. MaySend (without_place ps p) g)
+    line-fits = subst (λ o. IfSome o (λ g. MaySend (without_place ps p) g)) (sym (ap (λ l. get_or l p None) same ∙ at))
+        (subst (λ qs. MaySend (without_place qs p) h) (sym parties_is) (may-send P k p h M at b answer))
+
+    pub sent-ok : {E : Type 0} (r : Result (Outcome V A) E) (hs' : List (Option (Host V A))) (fl : List (Batch V A)) (n : ℕ)
+        → IfOk r (λ o. o ≡ outcome.Sent k.serial (stage_of_body b.body) b.receiver)
+        → OnOk r ((g : Host V A) (q : ℕ) → get_or hs p None ≡ Some g → unsent (without_place ps p) g.sent ≡ Some q → hs' ≡ set hs p (Some (sent_host (without_place ps p) q g)))
+        → OnOk r (fl ≡ k.flight ++ b ∷ []) → OnOk r (n ≡ k.serial + 1)
+        → IfOk r (λ o. (record k { hosts = hs'; flight = fl; serial = n }, o) ≡ worked P k p h (todo k.coordinator p h))
+    sent-ok (Ok o) hs' fl n told hosts flight serial = done-sent P k p h M at hs' fl n b o answer
+        (λ q left. hosts h q (ap (λ l. get_or l p None) same ∙ at) (ap (λ qs. unsent (without_place qs p) h.sent) parties_is ∙ left)
+            ∙ (ap (λ qs. set hs p (Some (sent_host (without_place qs p) q h))) parties_is ∙ ap (λ l. set l p (Some (sent_host (others k.coordinator p) q h))) same))
+        flight serial told
+    sent-ok (Err e) hs' fl n told hosts flight serial = tt

@@ -73,7 +73,8 @@ impl<P: VertexProgram> Cluster<P> {
         requires turn { turn_of self.now.cluster.coordinator (host self.now.cluster p) ≡ turn.Rest }
         ensures { (self.now.cluster, result) ≡ step (P.program_of self.now.program) self.now.cluster (event.Work p) }
     {
-        let _count = self.places();
+        // A look into the cluster tells what it keeps.
+        let _mode = self.coordinator.mode;
         Outcome::Idle
     }
 
