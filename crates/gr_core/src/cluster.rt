@@ -6,7 +6,10 @@ ghost use Rattle.gr_cluster.specs.Load.{load};
 ghost use Rattle.gr_core.specs.Loaded.{setting_of};
 ghost use Rattle.gr_core.specs.Tables as tables;
 
+mod barrier;
+mod network;
 mod results;
+mod work;
 
 use crate::host::Host;
 use crate::load::{first_places, read_ids};

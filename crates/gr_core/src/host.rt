@@ -1,16 +1,35 @@
-ghost use Rattle.std.specs.Prelude.{◌≡◌, ◌==◌, ◌+◌};
+ghost use Rattle.std.specs.Prelude.{◌≡◌, ◌==◌, ◌+◌, ◌-◌, ◌^◌, ◌<◌, false, Some, IfOk, IsOk, OnOk, OnErr, IsTrue, IsSome, IfSome, map, length};
+ghost use Rattle.std.specs.List.{list_any};
+ghost use Rattle.gr_base.specs.Places.{without_place};
+ghost use Rattle.gr_rows.specs.Layers.{vertex_of};
 ghost use Rattle.gr_batch.specs.declared.stage.Stage.TheVariants as stage;
+ghost use Rattle.gr_batch.specs.Bodies.{is_of, stage_of_body};
+ghost use Rattle.gr_batch.specs.Stages.{is_end};
+ghost use Rattle.gr_view.specs.declared.coordinator.Mode.{Mode};
+ghost use Rattle.gr_view.specs.Modes.{is_rebuild};
+ghost use Rattle.gr_rules.specs.Exchange.{unsent};
+ghost use Rattle.gr_low.specs.Sources.{SourcesReady};
+ghost use Rattle.gr_round.specs.Needs.{ValuesFit, GathersFit, UpdatesFit, SignalsRise, CallsRise};
+ghost use Rattle.gr_round.specs.Todo.{is_told};
 ghost use Rattle.gr_cluster.specs.Load.{fresh_host};
+ghost use Rattle.gr_cluster.specs.Network.{fate_at, received};
+ghost use Rattle.gr_cluster.specs.Work.{installed_host, adopted_host, sent_host};
+ghost use Rattle.gr_core.specs.Steps.{next_of, answer_of, acted_host};
 ghost use Rattle.gr_core.specs.Tables.{copy_in};
+ghost use Rattle.gr_core.specs.Turns.{turn_of};
 
 mod values;
 
 use crate::rebuild_line::RebuildLine;
+use crate::turn::{Turn, is_round};
 use gr_arcs::Arcs;
+use gr_base::{OutOfMemory, PlaceSet};
+use gr_batch::{Batch, Fate, copy_of};
 use gr_flight::Inbox;
 use gr_program::{VertexCopy, VertexProgram};
-use gr_round::PlaceRound;
+use gr_round::{Act, PlaceRound, RoundView};
 use gr_rows::Rows;
+use gr_view::Coordinator;
 use std::alloc::Global;
 use std::marker::Model;
 
@@ -29,11 +48,14 @@ pub struct Host<P: VertexProgram> {
 
 impl<P: VertexProgram> Model for Host<P> {
     ghost use Rattle.gr_cluster.specs.Tables as tables;
-    ghost use Rattle.gr_core.specs.Tables.{host_of};
+    ghost use Rattle.std.specs.Prelude.{IsTrue};
+    ghost use Rattle.gr_core.specs.Tables.{host_of, is_in_round};
 
     ghost Value = { tables.Host P.Value P.Acc };
 
     ghost view = { λ h. host_of h.rows h.arcs h.inbox h.epoch h.installed h.round h.rebuild };
+
+    ghost invariant = { λ h. IsTrue (is_in_round h.rebuild.stage) };
 }
 
 impl<P: VertexProgram> Host<P> {
@@ -73,5 +95,106 @@ impl<P: VertexProgram> Host<P> {
             return false;
         }
         self.installed == commits - 1
+    }
+
+    // A batch comes: one of an older epoch than the host's is gone, and each other goes into the inbox.
+    pub(crate) fn receive(
+        &mut self,
+        alloc: Global,
+        batch: &Batch<P::Value, P::Acc>,
+    ) -> Result<Fate, OutOfMemory>
+        requires fresh { list_any (is_of batch.now.sender batch.now.epoch (stage_of_body batch.now.body)) self.old.inbox ≡ false }
+        ensures fate { IfOk result (λ fate. fate ≡ fate_at batch.now (Some self.old)) }
+        ensures ok { OnOk result (Some self.new ≡ received batch.now (Some self.old)) }
+        ensures err { OnErr result (self.new ≡ self.old) }
+    {
+        if batch.epoch < self.epoch {
+            return Ok(Fate::Stale);
+        }
+        self.inbox.put(copy_of(alloc, batch)?)?;
+        Ok(Fate::Taken)
+    }
+
+    // Which part of its work comes next.
+    pub(crate) fn turn(&self, coordinator: &Coordinator) -> Turn
+        ensures { result ≡ turn_of coordinator.now (Some self.now) }
+    {
+        if self.installed < coordinator.commits {
+            return Turn::Install;
+        }
+        if self.epoch < coordinator.epoch {
+            return Turn::Adopt;
+        }
+        if is_round(coordinator.mode) {
+            Turn::Act
+        } else {
+            Turn::Rest
+        }
+    }
+
+    // What is pending takes effect. It gives how many commits are installed then.
+    pub(crate) fn install(&mut self) -> u64
+        requires { self.old.installed < 2 ^ 64 - 1 }
+        ensures host { self.new ≡ installed_host self.old }
+        ensures count { result ≡ self.old.installed + 1 }
+    {
+        self.rows.install();
+        self.arcs.install();
+        self.installed += 1;
+        self.installed
+    }
+
+    // A new epoch is adopted, in which no rebuild is open.
+    pub(crate) fn adopt(&mut self, epoch: u64)
+        ensures { (m : Mode) → is_rebuild m ≡ false → self.new ≡ adopted_host epoch m self.old }
+    {
+        self.rows.discard();
+        self.arcs.discard();
+        self.inbox.forget_below(epoch);
+        self.epoch = epoch;
+        self.round.reset();
+        self.rebuild = RebuildLine::none();
+    }
+
+    // Does what comes next at the place `me` in a round of an epoch that it has adopted.
+    pub(crate) fn act(
+        &mut self,
+        alloc: Global,
+        me: u8,
+        view: &RoundView,
+        program: &P,
+    ) -> Result<Act<P::Value, P::Acc>, OutOfMemory>
+        requires sources { SourcesReady (P.program_of program.now) self.old.stable self.old.arcs }
+        requires values { ValuesFit (P.program_of program.now) self.old.stable }
+        requires gathers { GathersFit self.old.inbox view.now.epoch (without_place view.now.parties me) (P.program_of program.now) }
+        requires updates { UpdatesFit self.old.inbox view.now.epoch (without_place view.now.parties me) self.old.stable }
+        requires signals { SignalsRise self.old.inbox view.now.epoch (without_place view.now.parties me) }
+        requires calls { CallsRise self.old.inbox view.now.epoch (without_place view.now.parties me) }
+        requires pending { map vertex_of self.old.pending ≡ map vertex_of self.old.stable }
+        requires few { length self.old.pending < 2 ^ 32 }
+        ensures answer { IfOk result (λ act. act ≡ answer_of (P.program_of program.now) me view.now self.old (next_of me view.now self.old)) }
+        ensures host { OnOk result (self.new ≡ acted_host (P.program_of program.now) me view.now self.old (next_of me view.now self.old)) }
+        ensures told { IsTrue (is_told (next_of me view.now self.old)) → IsOk result }
+        ensures err { OnErr result (self.new ≡ self.old) }
+    {
+        self.round.act(
+            alloc,
+            me,
+            view,
+            program,
+            &mut self.rows,
+            &self.arcs,
+            &self.inbox,
+        )
+    }
+
+    // Notes that the batch of the computed stage has gone to the least party that it was not sent to.
+    pub(crate) fn note_sent(&mut self, me: u8, parties: PlaceSet)
+        requires computed { IsTrue self.old.computed }
+        requires open { is_end self.old.stage ≡ false }
+        requires left { IsSome (unsent (without_place parties me) self.old.sent) }
+        ensures { IfSome (unsent (without_place parties me) self.old.sent) (λ q. self.new ≡ sent_host (without_place parties me) q self.old) }
+    {
+        self.round.note_sent(me, parties);
     }
 }

@@ -5,6 +5,7 @@ mod cluster;
 mod host;
 mod load;
 mod rebuild_line;
+mod turn;
 
 pub use cluster::Cluster;
 pub use host::Host;

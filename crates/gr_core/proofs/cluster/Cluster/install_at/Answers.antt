@@ -1,0 +1,31 @@
+use Rattle.std.proofs.Common.{◌≡◌, ◌∙◌, ◌<◌, ℕ, sym, ap, subst, true, false, length, arith}
+use Rattle.gr_sched.specs.declared.event.Event.TheVariants as event
+use Rattle.gr_view.specs.Modes.{is_over, is_rebuild}
+use Rattle.gr_cluster.specs.Tables.{Cluster, host}
+use Rattle.gr_cluster.specs.Step.{step}
+use Rattle.gr_agree.specs.Agree.{Invariant}
+use Rattle.gr_core.specs.declared.turn.Turn.TheVariants as turn
+use Rattle.gr_core.specs.Turns.{turn_of}
+use Rattle.gr_core.proofs.Turns.{install-step, work-invariant}
+use Rattle.gr_core.proofs.cluster.Cluster.install_at.Goals as goal
+
+pub invariant_of-self : goal.invariant_of-self
+invariant_of-self g c =
+    let s = c.self.inside in
+    let P = g.P.VertexProgram.program_of s.program in
+    let k : Cluster g.row.P-Value.Denot g.row.P-Acc.Denot = record { hosts = s.hosts.items; logs = s.logs.items; flight = s.flight; serial = s.serial; coordinator = s.coordinator; places = s.places; losses = s.losses; theta = s.theta } in
+    let over : is_over k.coordinator.mode ≡ false = ap (λ x. is_over x.cluster.coordinator.mode) c.self.view_is ∙ c.requires.going in
+    let none : is_rebuild k.coordinator.mode ≡ false = ap (λ x. is_rebuild x.cluster.coordinator.mode) c.self.view_is ∙ c.requires.no_rebuild in
+    let next : turn_of k.coordinator (host k c.args.p) ≡ turn.Install = ap (λ x. turn_of x.cluster.coordinator (host x.cluster c.args.p)) c.self.view_is ∙ c.requires.turn in
+    let is = install-step P k c.args.p over c.install.new.hosts.items c.install.result next c.install.ensures.hosts c.install.ensures.count in
+    subst (λ x. Invariant P x.0) (sym is) (work-invariant P k c.args.p over (g.met.P.VertexProgram.laws s.program) none c.self.invariant)
+
+pub returns-clause-step : goal.returns-clause-step
+returns-clause-step g c =
+    let s = c.self.inside in
+    let P = g.P.VertexProgram.program_of s.program in
+    let k : Cluster g.row.P-Value.Denot g.row.P-Acc.Denot = record { hosts = s.hosts.items; logs = s.logs.items; flight = s.flight; serial = s.serial; coordinator = s.coordinator; places = s.places; losses = s.losses; theta = s.theta } in
+    let over : is_over k.coordinator.mode ≡ false = ap (λ x. is_over x.cluster.coordinator.mode) c.self.view_is ∙ c.requires.going in
+    let next : turn_of k.coordinator (host k c.args.p) ≡ turn.Install = ap (λ x. turn_of x.cluster.coordinator (host x.cluster c.args.p)) c.self.view_is ∙ c.requires.turn in
+    let is = install-step P k c.args.p over c.install.new.hosts.items c.install.result next c.install.ensures.hosts c.install.ensures.count in
+    rw (← c.self.view_is) is
