@@ -9,6 +9,7 @@ ghost use Rattle.gr_core.specs.Tables as tables;
 mod barrier;
 mod network;
 mod results;
+mod step;
 mod work;
 
 use crate::host::Host;

@@ -1,11 +1,17 @@
-// A cluster at load.
+// A cluster at load, and a run of one that nothing disturbs.
+ghost use Rattle.std.specs.Prelude.{◌≡◌, ◌<◌, ◌-◌, ◌^◌, [], true, false, length};
+ghost use Rattle.gr_view.specs.Decisions.{looked_at};
+ghost use Rattle.gr_view.specs.Modes.{is_rebuild};
+ghost use Rattle.gr_cluster.specs.Step.{down_among};
+
 use crate::{Cluster, Host, RebuildLine};
 use gr_base::{OutOfMemory, PlaceSet};
-use gr_batch::Stage;
+use gr_batch::{Outcome, Stage};
 use gr_edges::read_graph;
 use gr_job::read_job;
 use gr_min::{Distance, Shortest};
 use gr_program::VertexCopy;
+use gr_sched::Event;
 use gr_view::Mode;
 use std::alloc::Global;
 use std::test::Fail;
@@ -70,18 +76,95 @@ fn both_places_hold_each_vertex_of_a_triangle(rt: HostRuntime) -> Result<(), Fai
     Ok(())
 }
 
-// How many values a run has that is done.
-fn result_count(cluster: &Cluster<Shortest>) -> Result<Option<usize>, OutOfMemory> {
+// Whether a round is open or the run is done, and no place is down.
+fn is_undisturbed(cluster: &Cluster<Shortest>) -> bool
+    ensures rebuild { result ≡ true → is_rebuild cluster.now.cluster.coordinator.mode ≡ false }
+    ensures up { result ≡ true → down_among cluster.now.cluster (looked_at cluster.now.cluster.coordinator) ≡ [] }
+{
+    let coordinator = cluster.coordinator();
+    match coordinator.mode {
+        Mode::Running | Mode::Done => cluster.up() == coordinator.parties(),
+        _ => false,
+    }
+}
+
+// Whether no count of the cluster is at its end.
+fn has_room(cluster: &Cluster<Shortest>) -> bool
+    ensures flight { result ≡ true → length cluster.now.cluster.flight < 2 ^ 32 - 1 }
+    ensures serial { result ≡ true → cluster.now.cluster.serial < 2 ^ 64 - 1 }
+    ensures epoch { result ≡ true → cluster.now.cluster.coordinator.epoch < 2 ^ 64 - 1 }
+    ensures commits { result ≡ true → cluster.now.cluster.coordinator.commits < 2 ^ 64 - 1 }
+    ensures rounds { result ≡ true → cluster.now.cluster.coordinator.round < 2 ^ 32 - 1 }
+{
+    let coordinator = cluster.coordinator();
+    if cluster.flight_len() == u32::MAX || cluster.serial == u64::MAX {
+        return false;
+    }
+    if coordinator.epoch == u64::MAX || coordinator.commits == u64::MAX {
+        return false;
+    }
+    coordinator.round != u32::MAX
+}
+
+// The outcome of an event, where nothing forbids it.
+fn take(
+    cluster: &mut Cluster<Shortest>,
+    event: Event,
+) -> Result<Option<Outcome<Distance, Distance>>, OutOfMemory> {
+    if !is_undisturbed(cluster) || !has_room(cluster) {
+        return Ok(None);
+    }
+    match event {
+        Event::Work(p) => {
+            if p < cluster.places() {
+                return Ok(Some(cluster.step(event)?));
+            }
+            Ok(None)
+        }
+        Event::Deliver(_) | Event::Discarded(_) | Event::Barrier => Ok(Some(cluster.step(event)?)),
+        _ => Ok(None),
+    }
+}
+
+// The `i`-th value of a run that is done: its vertex and its distance.
+fn result_at(cluster: &Cluster<Shortest>, i: usize) -> Result<Option<(u32, u64)>, OutOfMemory> {
     match cluster.mode() {
-        Mode::Done => Ok(Some(cluster.results()?.len())),
+        Mode::Done => match cluster.results()?.as_slice().get(i) {
+            Some(x) => Ok(Some((x.vertex, x.value.0))),
+            None => Ok(None),
+        },
         _ => Ok(None),
     }
 }
 
 #[test]
 fn a_graph_without_vertices_is_done_at_load(rt: HostRuntime) -> Result<(), Fail> {
-    assert_eq!(rt; result_count(&loaded(rt.alloc(), TRIANGLE)?)?, None);
-    assert_eq!(rt; result_count(&loaded(rt.alloc(), b"")?)?, Some(0));
+    let empty = loaded(rt.alloc(), b"")?;
+    assert_eq!(rt; empty.mode(), Mode::Done);
+    assert_eq!(rt; result_at(&empty, 0)?, None);
+    Ok(())
+}
+
+#[test]
+fn a_run_ends_with_the_distances(rt: HostRuntime) -> Result<(), Fail> {
+    let mut cluster = loaded(rt.alloc(), TRIANGLE)?;
+    assert_eq!(rt; result_at(&cluster, 0)?, None);
+    for _ in 0..100 {
+        take(&mut cluster, Event::Work(1))?;
+        take(&mut cluster, Event::Work(0))?;
+        take(&mut cluster, Event::Deliver(0))?;
+        take(&mut cluster, Event::Discarded(0))?;
+        take(&mut cluster, Event::Barrier)?;
+    }
+    assert_eq!(rt; (cluster.mode(), cluster.rounds()), (Mode::Done, 2));
+    for (i, value) in [
+        (0, Some((0, 0))),
+        (1, Some((1, 1))),
+        (2, Some((2, 1))),
+        (3, None),
+    ] {
+        assert_eq!(rt; result_at(&cluster, i)?, value);
+    }
     Ok(())
 }
 
