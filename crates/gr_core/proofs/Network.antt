@@ -129,3 +129,8 @@ module _ {V A : Type 0} (P : Program V A) (c : Cluster V A) (i : ℕ) (over : is
   pub drop-step : (fl : List (Batch V A)) (r : Outcome V A) → may_drop c (slice_get c.flight i) ≡ true → fl ≡ remove c.flight i
       → ((b : Batch V A) → slice_get c.flight i ≡ Some b → r ≡ outcome.Dropped b.serial) → (record c { flight = fl }, r) ≡ step P c (event.Discarded i)
   drop-step fl r may rest told = (λ j. (record c { flight = rest j }, r)) ∙ sym (step-taken P c (event.Discarded i) over ∙ dropped-gone P c i (slice_get c.flight i) r may told)
+
+-- after the end of the run nothing happens
+pub step-over : {V A : Type 0} (P : Program V A) (c : Cluster V A) (e : Event) → is_over c.coordinator.mode ≡ true → (c, outcome.Idle) ≡ step P c e
+unfolding step
+step-over P c e o = rw o refl

@@ -5,6 +5,7 @@ ghost use Rattle.gr_core.specs.Tables as tables;
 
 mod barrier;
 mod network;
+mod step;
 mod work;
 
 use crate::host::Host;
