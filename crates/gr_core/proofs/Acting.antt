@@ -162,14 +162,14 @@ module _ {V A : Type 0} (P : Program V A) (k : Cluster V A) (p : ℕ) (h : Host 
   pub computed-acted : acted_host P p view h Todo.Compute ≡ computed_host (others k.coordinator p) (staged_rows P k p h h.stage) (staged_arcs P k p h h.stage) h
   computed-acted =
       let rows : round_rows P p k.coordinator.epoch (others k.coordinator p) h.inbox h.stable h.arcs h.stage h.pending ≡ staged_rows P k p h h.stage
-          = ap (λ e. round_rows P p e (others k.coordinator p) h.inbox h.stable h.arcs h.stage h.pending) (sym M.now) ∙ sym (rows-round P k p h none' h.stage) in
+      = ap (λ e. round_rows P p e (others k.coordinator p) h.inbox h.stable h.arcs h.stage h.pending) (sym M.now) ∙ sym (rows-round P k p h none' h.stage) in
       let arcs : h.pending_arcs ≡ staged_arcs P k p h h.stage = sym (arcs-kept P k p h none' h.stage) in
       λ j. computed_host (others k.coordinator p) (rows j) (arcs j) h
 
   pub batch-acted : (q : ℕ) → round.batch_to P p view h.inbox h.arcs (line_of h) (copies_of h) q ≡ batch_to P k p h q
   batch-acted q =
       let body : round_body P p k.coordinator.epoch (others k.coordinator p) h.inbox h.stable h.arcs k.theta q h.stage ≡ body_to P k p h q h.stage
-          = ap (λ e. round_body P p e (others k.coordinator p) h.inbox h.stable h.arcs k.theta q h.stage) (sym M.now) ∙ sym (body-round P k p h q h.stage M.stage) in
+      = ap (λ e. round_body P p e (others k.coordinator p) h.inbox h.stable h.arcs k.theta q h.stage) (sym M.now) ∙ sym (body-round P k p h q h.stage M.stage) in
       ap (λ b. record { serial = k.serial; epoch = k.coordinator.epoch; round = k.coordinator.round; sender = p; receiver = q; body = b }) body
 
   pub batch-stage : (q : ℕ) → is_end h.stage ≡ false → stage_of_body (batch_to P k p h q).body ≡ h.stage
@@ -188,7 +188,7 @@ module _ {V A : Type 0} (P : Program V A) (k : Cluster V A) (p : ℕ) (h : Host 
     done-computed hs s answer is =
         let I = computed-is P p view h (todo k.coordinator p h) s (sym (answer ∙ ap (answer_of P p view h) next)) in
         let is' : hs ≡ set k.hosts p (Some (computed_host (others k.coordinator p) (staged_rows P k p h h.stage) (staged_arcs P k p h h.stage) h))
-            = is ∙ (ap (λ x. set k.hosts p (Some (acted_host P p view h x))) (next ∙ I.0) ∙ ap (λ o. set k.hosts p (Some o)) computed-acted) in
+        = is ∙ (ap (λ x. set k.hosts p (Some (acted_host P p view h x))) (next ∙ I.0) ∙ ap (λ o. set k.hosts p (Some o)) computed-acted) in
         let s' : s ≡ h.stage = sym I.1 in
         (λ j. (record k { hosts = is' j }, outcome.Computed (s' j))) ∙ ap (worked P k p h) (sym I.0)
 
@@ -321,6 +321,6 @@ module _ {V A : Type 0} (P : Program V A) (k : Cluster V A) (p : ℕ) (h : Host 
         → IfOk r (λ o. (record k { hosts = hs'; flight = fl; serial = n }, o) ≡ worked P k p h (todo k.coordinator p h))
     sent-ok (Ok o) hs' fl n told hosts flight serial = done-sent P k p h M at hs' fl n b o answer
         (λ q left. hosts h q (ap (λ l. get_or l p None) same ∙ at) (ap (λ qs. unsent (without_place qs p) h.sent) parties_is ∙ left)
-            ∙ (ap (λ qs. set hs p (Some (sent_host (without_place qs p) q h))) parties_is ∙ ap (λ l. set l p (Some (sent_host (others k.coordinator p) q h))) same))
+        ∙ (ap (λ qs. set hs p (Some (sent_host (without_place qs p) q h))) parties_is ∙ ap (λ l. set l p (Some (sent_host (others k.coordinator p) q h))) same))
         flight serial told
     sent-ok (Err e) hs' fl n told hosts flight serial = tt

@@ -122,8 +122,8 @@ module _ {V A : Type 0} (P : Program V A) (L : ProgramLaws P) (t : Truth V) (c :
       let now : h.epoch ≡ c.coordinator.epoch = let o = O.epoch in omega (arith, o, le) in
       let zero' = (O.at_epoch now).idle (failed-mode c.coordinator.mode over none r) in
       let off : h.computed ≡ false = by_test h.computed
-          (λ y. absurd (let one : progress h ≡ place_in h.stage + 1 = ap (λ b. place_in h.stage + cond b 1 0) y in omega (arith, one, zero')))
-          (λ y. y) in
+      (λ y. absurd (let one : progress h ≡ place_in h.stage + 1 = ap (λ b. place_in h.stage + cond b 1 0) y in omega (arith, one, zero')))
+      (λ y. y) in
       let closed : is_open c.coordinator.mode ≡ false = ap (λ b. b || is_rebuild c.coordinator.mode) r ∙ none in
       rw (over, i, n, closed, off) refl)))
 
