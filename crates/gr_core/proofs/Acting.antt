@@ -1,12 +1,9 @@
 -- What a place does in a round is what the step of the cluster makes of it.
-use Rattle.std.proofs.Common.{◌≡◌, ℕ, ◌+◌, ◌<◌, ◌≤◌, List, [], ◌∷◌, ◌++◌, Bool, true, false, refl, sym, ap, ◌∙◌, subst, arith, Option, Some, None, get_or, set, length, ◌^◌, Result, Ok, Err}
+use Rattle.std.proofs.Common.{◌≡◌, ℕ, ◌+◌, List, [], ◌∷◌, ◌++◌, true, false, refl, sym, ap, ◌∙◌, subst, arith, Option, Some, None, get_or, set, Result, Ok, Err}
 use Rattle.std.specs.Prelude.{IsTrue, IsSome, IfSome, is_some, IfOk, OnOk, OnErr}
-use Rattle.gr_base.specs.declared.records.NumberedEdge.{NumberedEdge}
 use Rattle.gr_base.specs.Places.{without_place}
-use Rattle.gr_program.specs.declared.copy.VertexCopy.{VertexCopy}
 use Rattle.gr_program.specs.Program.{Program}
 use Rattle.gr_batch.specs.declared.batch.Batch.{Batch}
-use Rattle.gr_batch.specs.declared.body.Body.{Body}
 use Rattle.gr_batch.specs.declared.stage.Stage.{Stage}
 use Rattle.gr_batch.specs.declared.stage.Stage.TheVariants as stage
 use Rattle.gr_batch.specs.declared.outcome.Outcome.{Outcome}
@@ -14,7 +11,6 @@ use Rattle.gr_batch.specs.declared.outcome.Outcome.TheVariants as outcome
 use Rattle.gr_batch.specs.Bodies.{stage_of_body}
 use Rattle.gr_batch.specs.Stages.{is_end}
 use Rattle.gr_view.specs.declared.coordinator.Coordinator.{Coordinator}
-use Rattle.gr_view.specs.declared.coordinator.Mode.TheVariants as mode
 use Rattle.gr_view.specs.Modes.{is_rebuild}
 use Rattle.gr_view.specs.Decisions.{parties, reported}
 use Rattle.gr_rules.specs.Exchange.{unsent}
@@ -26,11 +22,10 @@ use Rattle.gr_round.specs.declared.view.RoundView.{RoundView}
 use Rattle.gr_round.specs.Line.{is_of_round}
 use Rattle.gr_round.specs.Acts as round
 use Rattle.gr_round.specs.Todo.{is_told}
-use Rattle.gr_cluster.specs.Tables.{Host, Cluster, host, with_host}
+use Rattle.gr_cluster.specs.Tables.{Host, Cluster, host}
 use Rattle.gr_cluster.specs.Todo.{others, todo}
 use Rattle.gr_cluster.specs.Place.{staged_rows, staged_arcs, batch_to, body_to}
 use Rattle.gr_cluster.specs.Work.{computed_host, sent_host, worked}
-use Rattle.std.proofs.lemmas.List.{length-set}
 use Rattle.gr_law_network.proofs.Frame.{with_host-same}
 use Rattle.gr_law_round.proofs.Todo.{case-todo}
 use Rattle.gr_core.specs.Steps.{line_of, copies_of, next_of, answer_of, acted_host, takes_memory}

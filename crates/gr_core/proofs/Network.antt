@@ -1,6 +1,6 @@
 -- What a delivery and a drop make of a cluster, and that the invariant stays.
-use Rattle.std.proofs.Common.{◌≡◌, ℕ, ◌+◌, ◌≤◌, List, [], ◌∷◌, Bool, true, false, cond, ◌==◌, ◌&&◌, refl, sym, ap, ◌∙◌, subst, arith, Option, Some, None, slice_get, remove, eq-eqb, get_or, set, Result, Ok, Err}
-use Rattle.std.specs.Prelude.{count_by, is_none, nat_lt, ◌||◌, IfOk, OnErr}
+use Rattle.std.proofs.Common.{◌≡◌, ℕ, ◌≤◌, List, Bool, true, false, cond, ◌==◌, refl, sym, ap, ◌∙◌, subst, arith, Option, Some, None, slice_get, remove, eq-eqb, get_or, set, Result, Ok, Err}
+use Rattle.std.specs.Prelude.{count_by, IfOk, OnErr}
 use Rattle.std.specs.List.{list_any}
 use Rattle.gr_program.specs.Program.{Program}
 use Rattle.gr_batch.specs.declared.batch.Batch.{Batch}
@@ -17,8 +17,7 @@ use Rattle.gr_view.specs.Modes.{is_over}
 use Rattle.gr_cluster.specs.Tables.{Host, Cluster, host, inbox_of}
 use Rattle.gr_cluster.specs.Network.{fate_at, received, delivered, dropped}
 use Rattle.gr_cluster.specs.Step.{step, taken_step}
-use Rattle.gr_agree.specs.Truth.{Truth}
-use Rattle.gr_agree.specs.Agree.{Agree, Invariant}
+use Rattle.gr_agree.specs.Agree.{Invariant}
 use Rattle.gr_agree.specs.Network.{standing}
 use Rattle.gr_lists.proofs.Counts.{count_by-remove, some-counted}
 use Rattle.gr_lists.proofs.Tests.{by_test}

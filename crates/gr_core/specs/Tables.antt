@@ -1,5 +1,5 @@
 -- What contracts see of a host and of a cluster.
-use Rattle.std.specs.Prelude.{ℕ, Bool, true, false, ◌&&◌, ◌==◌, not, List, Option, Some, None, if◌then◌else◌, find}
+use Rattle.std.specs.Prelude.{ℕ, Bool, true, false, ◌&&◌, ◌==◌, not, List, Option, if◌then◌else◌, find}
 use Rattle.gr_program.specs.declared.copy.VertexCopy.{VertexCopy}
 use Rattle.gr_rows.specs.Layers.{CopyLayers}
 use Rattle.gr_arcs.specs.Layers.{EdgeLayers}
@@ -7,7 +7,7 @@ use Rattle.gr_batch.specs.declared.batch.Batch.{Batch}
 use Rattle.gr_batch.specs.declared.stage.Stage.{Stage}
 use Rattle.gr_batch.specs.declared.stage.Stage.TheVariants as stage
 use Rattle.gr_round.specs.Line.{RoundLine}
-use Rattle.gr_cluster.specs.Tables.{Host, Cluster, host, effective}
+use Rattle.gr_cluster.specs.Tables.{Host, Cluster, effective}
 use Rattle.gr_cluster.specs.Ending.{effective_at}
 use Rattle.gr_core.specs.declared.rebuild_line.RebuildLine.{RebuildLine}
 

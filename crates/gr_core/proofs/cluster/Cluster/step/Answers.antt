@@ -1,4 +1,4 @@
-use Rattle.std.proofs.Common.{◌≡◌, ◌∙◌, sym, ap, subst, true, false}
+use Rattle.std.proofs.Common.{◌≡◌, ◌∙◌, sym, ap, true, false}
 use Rattle.gr_view.specs.Modes.{is_over}
 use Rattle.gr_core.specs.Steps.{is_delivery}
 use Rattle.gr_core.proofs.Network.{step-over}
