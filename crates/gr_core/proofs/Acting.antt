@@ -1,12 +1,9 @@
 -- What a place does in a round is what the step of the cluster makes of it.
-use Rattle.std.proofs.Common.{◌≡◌, ℕ, ◌+◌, ◌<◌, ◌≤◌, List, [], ◌∷◌, ◌++◌, Bool, true, false, refl, sym, ap, ◌∙◌, subst, arith, Option, Some, None, get_or, set, length, ◌^◌, Result, Ok, Err}
+use Rattle.std.proofs.Common.{◌≡◌, ℕ, ◌+◌, List, [], ◌∷◌, ◌++◌, true, false, refl, sym, ap, ◌∙◌, subst, arith, Option, Some, None, get_or, set, Result, Ok, Err}
 use Rattle.std.specs.Prelude.{IsTrue, IsSome, IfSome, is_some, IfOk, OnOk, OnErr}
-use Rattle.gr_base.specs.declared.records.NumberedEdge.{NumberedEdge}
 use Rattle.gr_base.specs.Places.{without_place}
-use Rattle.gr_program.specs.declared.copy.VertexCopy.{VertexCopy}
 use Rattle.gr_program.specs.Program.{Program}
 use Rattle.gr_batch.specs.declared.batch.Batch.{Batch}
-use Rattle.gr_batch.specs.declared.body.Body.{Body}
 use Rattle.gr_batch.specs.declared.stage.Stage.{Stage}
 use Rattle.gr_batch.specs.declared.stage.Stage.TheVariants as stage
 use Rattle.gr_batch.specs.declared.outcome.Outcome.{Outcome}
@@ -14,7 +11,6 @@ use Rattle.gr_batch.specs.declared.outcome.Outcome.TheVariants as outcome
 use Rattle.gr_batch.specs.Bodies.{stage_of_body}
 use Rattle.gr_batch.specs.Stages.{is_end}
 use Rattle.gr_view.specs.declared.coordinator.Coordinator.{Coordinator}
-use Rattle.gr_view.specs.declared.coordinator.Mode.TheVariants as mode
 use Rattle.gr_view.specs.Modes.{is_rebuild}
 use Rattle.gr_view.specs.Decisions.{parties, reported}
 use Rattle.gr_rules.specs.Exchange.{unsent}
@@ -26,11 +22,10 @@ use Rattle.gr_round.specs.declared.view.RoundView.{RoundView}
 use Rattle.gr_round.specs.Line.{is_of_round}
 use Rattle.gr_round.specs.Acts as round
 use Rattle.gr_round.specs.Todo.{is_told}
-use Rattle.gr_cluster.specs.Tables.{Host, Cluster, host, with_host}
+use Rattle.gr_cluster.specs.Tables.{Host, Cluster, host}
 use Rattle.gr_cluster.specs.Todo.{others, todo}
 use Rattle.gr_cluster.specs.Place.{staged_rows, staged_arcs, batch_to, body_to}
 use Rattle.gr_cluster.specs.Work.{computed_host, sent_host, worked}
-use Rattle.std.proofs.lemmas.List.{length-set}
 use Rattle.gr_law_network.proofs.Frame.{with_host-same}
 use Rattle.gr_law_round.proofs.Todo.{case-todo}
 use Rattle.gr_core.specs.Steps.{line_of, copies_of, next_of, answer_of, acted_host, takes_memory}
@@ -162,14 +157,14 @@ module _ {V A : Type 0} (P : Program V A) (k : Cluster V A) (p : ℕ) (h : Host 
   pub computed-acted : acted_host P p view h Todo.Compute ≡ computed_host (others k.coordinator p) (staged_rows P k p h h.stage) (staged_arcs P k p h h.stage) h
   computed-acted =
       let rows : round_rows P p k.coordinator.epoch (others k.coordinator p) h.inbox h.stable h.arcs h.stage h.pending ≡ staged_rows P k p h h.stage
-          = ap (λ e. round_rows P p e (others k.coordinator p) h.inbox h.stable h.arcs h.stage h.pending) (sym M.now) ∙ sym (rows-round P k p h none' h.stage) in
+      = ap (λ e. round_rows P p e (others k.coordinator p) h.inbox h.stable h.arcs h.stage h.pending) (sym M.now) ∙ sym (rows-round P k p h none' h.stage) in
       let arcs : h.pending_arcs ≡ staged_arcs P k p h h.stage = sym (arcs-kept P k p h none' h.stage) in
       λ j. computed_host (others k.coordinator p) (rows j) (arcs j) h
 
   pub batch-acted : (q : ℕ) → round.batch_to P p view h.inbox h.arcs (line_of h) (copies_of h) q ≡ batch_to P k p h q
   batch-acted q =
       let body : round_body P p k.coordinator.epoch (others k.coordinator p) h.inbox h.stable h.arcs k.theta q h.stage ≡ body_to P k p h q h.stage
-          = ap (λ e. round_body P p e (others k.coordinator p) h.inbox h.stable h.arcs k.theta q h.stage) (sym M.now) ∙ sym (body-round P k p h q h.stage M.stage) in
+      = ap (λ e. round_body P p e (others k.coordinator p) h.inbox h.stable h.arcs k.theta q h.stage) (sym M.now) ∙ sym (body-round P k p h q h.stage M.stage) in
       ap (λ b. record { serial = k.serial; epoch = k.coordinator.epoch; round = k.coordinator.round; sender = p; receiver = q; body = b }) body
 
   pub batch-stage : (q : ℕ) → is_end h.stage ≡ false → stage_of_body (batch_to P k p h q).body ≡ h.stage
@@ -188,7 +183,7 @@ module _ {V A : Type 0} (P : Program V A) (k : Cluster V A) (p : ℕ) (h : Host 
     done-computed hs s answer is =
         let I = computed-is P p view h (todo k.coordinator p h) s (sym (answer ∙ ap (answer_of P p view h) next)) in
         let is' : hs ≡ set k.hosts p (Some (computed_host (others k.coordinator p) (staged_rows P k p h h.stage) (staged_arcs P k p h h.stage) h))
-            = is ∙ (ap (λ x. set k.hosts p (Some (acted_host P p view h x))) (next ∙ I.0) ∙ ap (λ o. set k.hosts p (Some o)) computed-acted) in
+        = is ∙ (ap (λ x. set k.hosts p (Some (acted_host P p view h x))) (next ∙ I.0) ∙ ap (λ o. set k.hosts p (Some o)) computed-acted) in
         let s' : s ≡ h.stage = sym I.1 in
         (λ j. (record k { hosts = is' j }, outcome.Computed (s' j))) ∙ ap (worked P k p h) (sym I.0)
 
@@ -321,6 +316,6 @@ module _ {V A : Type 0} (P : Program V A) (k : Cluster V A) (p : ℕ) (h : Host 
         → IfOk r (λ o. (record k { hosts = hs'; flight = fl; serial = n }, o) ≡ worked P k p h (todo k.coordinator p h))
     sent-ok (Ok o) hs' fl n told hosts flight serial = done-sent P k p h M at hs' fl n b o answer
         (λ q left. hosts h q (ap (λ l. get_or l p None) same ∙ at) (ap (λ qs. unsent (without_place qs p) h.sent) parties_is ∙ left)
-            ∙ (ap (λ qs. set hs p (Some (sent_host (without_place qs p) q h))) parties_is ∙ ap (λ l. set l p (Some (sent_host (others k.coordinator p) q h))) same))
+        ∙ (ap (λ qs. set hs p (Some (sent_host (without_place qs p) q h))) parties_is ∙ ap (λ l. set l p (Some (sent_host (others k.coordinator p) q h))) same))
         flight serial told
     sent-ok (Err e) hs' fl n told hosts flight serial = tt

@@ -1,9 +1,7 @@
 -- What a barrier makes of a cluster where it finds no place down, and that the invariant stays.
-use Rattle.std.proofs.Common.{◌≡◌, ℕ, List, [], ◌∷◌, Bool, true, false, refl, sym, ap, ◌∙◌, subst, Option, Some, None}
-use Rattle.std.specs.Prelude.{IsTrue, length, is_none, ◌+◌, ◌≤◌}
+use Rattle.std.proofs.Common.{◌≡◌, [], true, false, refl, sym, ap, ◌∙◌, subst}
 use Rattle.gr_program.specs.Program.{Program, ProgramLaws}
 use Rattle.gr_batch.specs.declared.outcome.Outcome.{Outcome}
-use Rattle.gr_batch.specs.declared.outcome.Outcome.TheVariants as outcome
 use Rattle.gr_sched.specs.declared.event.Event.TheVariants as event
 use Rattle.gr_view.specs.declared.coordinator.Coordinator.{Coordinator}
 use Rattle.gr_view.specs.declared.coordinator.Verdict.{Verdict}
@@ -15,7 +13,7 @@ use Rattle.gr_cluster.specs.Tables.{Cluster}
 use Rattle.gr_cluster.specs.Runs.{is_commit}
 use Rattle.gr_cluster.specs.Step.{step, down_among, after_verdict, barred}
 use Rattle.gr_agree.specs.TrueRound.{next}
-use Rattle.gr_agree.specs.Agree.{Agree, Invariant}
+use Rattle.gr_agree.specs.Agree.{Invariant}
 use Rattle.gr_lists.proofs.Tests.{by_test, by_option}
 use Rattle.gr_law_commit.proofs.Commit.{round-commits}
 use Rattle.gr_core.specs.Steps.{told_of}

@@ -1,6 +1,6 @@
 -- A place whose turn it is to act has what its work needs.
-use Rattle.std.proofs.Common.{◌≡◌, ℕ, ◌+◌, ◌<◌, ◌≤◌, ◌^◌, Bool, true, false, not, cond, ◌==◌, ◌&&◌, refl, sym, ap, ◌∙◌, subst, arith, Option, Some, None, length, ltb-false, nat_lt, inl, inr, ⊎_elim}
-use Rattle.std.specs.Prelude.{IsTrue, count_by, ◌||◌}
+use Rattle.std.proofs.Common.{◌≡◌, ℕ, ◌+◌, ◌<◌, ◌≤◌, ◌^◌, true, false, not, cond, ◌==◌, ◌&&◌, refl, sym, ap, ◌∙◌, subst, arith, Option, Some, None, ltb-false, nat_lt}
+use Rattle.std.specs.Prelude.{IsTrue, ◌||◌}
 use Rattle.std.proofs.lemmas.Bool.{and_right}
 use Rattle.std.proofs.lemmas.List.Sums.{count_by-le-length}
 use Rattle.gr_base.specs.Rising.{has}
@@ -8,14 +8,13 @@ use Rattle.gr_program.specs.Program.{Program, ProgramLaws}
 use Rattle.gr_batch.specs.declared.stage.Stage.{Stage}
 use Rattle.gr_batch.specs.declared.stage.Stage.TheVariants as stage
 use Rattle.gr_sched.specs.declared.event.Event.TheVariants as event
-use Rattle.gr_view.specs.declared.coordinator.Coordinator.{Coordinator}
 use Rattle.gr_view.specs.declared.coordinator.Mode.{Mode}
 use Rattle.gr_view.specs.declared.coordinator.Mode.TheVariants as mode
 use Rattle.gr_view.specs.Modes.{is_over, is_open, is_failed, is_rebuild, is_round}
 use Rattle.gr_rules.specs.Todo.{Todo}
 use Rattle.gr_rules.specs.AtPlace.{due_count}
 use Rattle.gr_round.specs.Line.{is_of_round}
-use Rattle.gr_cluster.specs.Tables.{Host, Cluster, host, log, view_of, wanted_in}
+use Rattle.gr_cluster.specs.Tables.{Host, Cluster, host}
 use Rattle.gr_cluster.specs.Todo.{todo}
 use Rattle.gr_batch.specs.Stages.{place_in}
 use Rattle.gr_batch.specs.declared.outcome.Outcome.TheVariants as outcome
@@ -23,8 +22,8 @@ use Rattle.gr_cluster.specs.Work.{worked, worked_at}
 use Rattle.gr_cluster.specs.Step.{step}
 use Rattle.gr_agree.specs.Truth.{Truth}
 use Rattle.gr_agree.specs.TrueRound.{active_next}
-use Rattle.gr_agree.specs.Hosts.{HostOpen, progress}
-use Rattle.gr_agree.specs.Agree.{Agree, Invariant}
+use Rattle.gr_agree.specs.Hosts.{progress}
+use Rattle.gr_agree.specs.Agree.{Agree}
 use Rattle.gr_law_network.proofs.Frame.{within}
 use Rattle.gr_law_round.proofs.AtPlace.{IsRoundStage}
 use Rattle.gr_law_round.proofs.Install.{party, opened}
@@ -34,8 +33,8 @@ use Rattle.gr_law_round.proofs.Work.{work-kept}
 use Rattle.gr_law_needs.proofs.Act.{may-act}
 use Rattle.gr_core.specs.declared.turn.Turn.TheVariants as turn
 use Rattle.gr_core.specs.Turns.{turn_of}
-use Rattle.gr_core.specs.Works.{MayReport, MayWork}
-use Rattle.gr_core.proofs.Turns.{Acts, turn-act, work-step}
+use Rattle.gr_core.specs.Works.{MayWork}
+use Rattle.gr_core.proofs.Turns.{turn-act, work-step}
 use Rattle.gr_core.proofs.Network.{step-taken}
 use Rattle.gr_lists.proofs.Tests.{by_test}
 
@@ -122,8 +121,8 @@ module _ {V A : Type 0} (P : Program V A) (L : ProgramLaws P) (t : Truth V) (c :
       let now : h.epoch ≡ c.coordinator.epoch = let o = O.epoch in omega (arith, o, le) in
       let zero' = (O.at_epoch now).idle (failed-mode c.coordinator.mode over none r) in
       let off : h.computed ≡ false = by_test h.computed
-          (λ y. absurd (let one : progress h ≡ place_in h.stage + 1 = ap (λ b. place_in h.stage + cond b 1 0) y in omega (arith, one, zero')))
-          (λ y. y) in
+      (λ y. absurd (let one : progress h ≡ place_in h.stage + 1 = ap (λ b. place_in h.stage + cond b 1 0) y in omega (arith, one, zero')))
+      (λ y. y) in
       let closed : is_open c.coordinator.mode ≡ false = ap (λ b. b || is_rebuild c.coordinator.mode) r ∙ none in
       rw (over, i, n, closed, off) refl)))
 

@@ -1,6 +1,6 @@
 -- What a delivery and a drop make of a cluster, and that the invariant stays.
-use Rattle.std.proofs.Common.{◌≡◌, ℕ, ◌+◌, ◌≤◌, List, [], ◌∷◌, Bool, true, false, cond, ◌==◌, ◌&&◌, refl, sym, ap, ◌∙◌, subst, arith, Option, Some, None, slice_get, remove, eq-eqb, get_or, set, Result, Ok, Err}
-use Rattle.std.specs.Prelude.{count_by, is_none, nat_lt, ◌||◌, IfOk, OnErr}
+use Rattle.std.proofs.Common.{◌≡◌, ℕ, ◌≤◌, List, Bool, true, false, cond, ◌==◌, refl, sym, ap, ◌∙◌, subst, arith, Option, Some, None, slice_get, remove, eq-eqb, get_or, set, Result, Ok, Err}
+use Rattle.std.specs.Prelude.{count_by, IfOk, OnErr}
 use Rattle.std.specs.List.{list_any}
 use Rattle.gr_program.specs.Program.{Program}
 use Rattle.gr_batch.specs.declared.batch.Batch.{Batch}
@@ -17,8 +17,7 @@ use Rattle.gr_view.specs.Modes.{is_over}
 use Rattle.gr_cluster.specs.Tables.{Host, Cluster, host, inbox_of}
 use Rattle.gr_cluster.specs.Network.{fate_at, received, delivered, dropped}
 use Rattle.gr_cluster.specs.Step.{step, taken_step}
-use Rattle.gr_agree.specs.Truth.{Truth}
-use Rattle.gr_agree.specs.Agree.{Agree, Invariant}
+use Rattle.gr_agree.specs.Agree.{Invariant}
 use Rattle.gr_agree.specs.Network.{standing}
 use Rattle.gr_lists.proofs.Counts.{count_by-remove, some-counted}
 use Rattle.gr_lists.proofs.Tests.{by_test}
@@ -129,3 +128,8 @@ module _ {V A : Type 0} (P : Program V A) (c : Cluster V A) (i : ℕ) (over : is
   pub drop-step : (fl : List (Batch V A)) (r : Outcome V A) → may_drop c (slice_get c.flight i) ≡ true → fl ≡ remove c.flight i
       → ((b : Batch V A) → slice_get c.flight i ≡ Some b → r ≡ outcome.Dropped b.serial) → (record c { flight = fl }, r) ≡ step P c (event.Discarded i)
   drop-step fl r may rest told = (λ j. (record c { flight = rest j }, r)) ∙ sym (step-taken P c (event.Discarded i) over ∙ dropped-gone P c i (slice_get c.flight i) r may told)
+
+-- after the end of the run nothing happens
+pub step-over : {V A : Type 0} (P : Program V A) (c : Cluster V A) (e : Event) → is_over c.coordinator.mode ≡ true → (c, outcome.Idle) ≡ step P c e
+unfolding step
+step-over P c e o = rw o refl

@@ -1,13 +1,11 @@
 -- What the parts of a place's work make of a cluster, and that the invariant stays.
-use Rattle.std.proofs.Common.{◌≡◌, ℕ, ◌+◌, ◌<◌, List, Bool, true, false, refl, sym, ap, ◌∙◌, subst, Option, Some, None, get_or, set, ltb-true, nat_lt}
+use Rattle.std.proofs.Common.{◌≡◌, ℕ, ◌+◌, List, true, false, refl, sym, ap, ◌∙◌, Option, Some, None, set, nat_lt}
 use Rattle.std.specs.Prelude.{option_map}
 use Rattle.gr_program.specs.Program.{Program, ProgramLaws}
 use Rattle.gr_log.specs.Log.{Log, cut_log}
-use Rattle.gr_batch.specs.declared.outcome.Outcome.{Outcome}
 use Rattle.gr_batch.specs.declared.outcome.Outcome.TheVariants as outcome
 use Rattle.gr_sched.specs.declared.event.Event.TheVariants as event
 use Rattle.gr_view.specs.declared.coordinator.Coordinator.{Coordinator}
-use Rattle.gr_view.specs.declared.coordinator.Mode.{Mode}
 use Rattle.gr_view.specs.Modes.{is_over, is_rebuild, is_round}
 use Rattle.gr_rules.specs.Todo.{Todo}
 use Rattle.gr_rules.specs.Taken.{log_at}
@@ -15,10 +13,9 @@ use Rattle.gr_cluster.specs.Tables.{Host, Cluster, host}
 use Rattle.gr_cluster.specs.Todo.{todo}
 use Rattle.gr_cluster.specs.Work.{installed_host, adopted_host, worked, worked_at}
 use Rattle.gr_cluster.specs.Step.{step}
-use Rattle.gr_agree.specs.Agree.{Agree, Invariant}
+use Rattle.gr_agree.specs.Agree.{Invariant}
 use Rattle.gr_lists.proofs.Tests.{by_test}
 use Rattle.gr_law_round.proofs.Work.{work-kept}
-use Rattle.gr_core.specs.declared.turn.Turn.{Turn}
 use Rattle.gr_core.specs.declared.turn.Turn.TheVariants as turn
 use Rattle.gr_core.specs.Turns.{turn_of}
 use Rattle.gr_core.proofs.Network.{step-taken}

@@ -6,6 +6,8 @@ use Rattle.gr_rows.specs.Layers.{CopyLayers}
 use Rattle.gr_batch.specs.declared.batch.Batch.{Batch}
 use Rattle.gr_batch.specs.declared.outcome.Outcome.{Outcome}
 use Rattle.gr_batch.specs.declared.outcome.Outcome.TheVariants as outcome
+use Rattle.gr_sched.specs.declared.event.Event.{Event}
+use Rattle.gr_sched.specs.declared.event.Event.TheVariants as event
 use Rattle.gr_view.specs.declared.coordinator.Verdict.{Verdict}
 use Rattle.gr_view.specs.declared.coordinator.Verdict.TheVariants as verdict
 use Rattle.gr_rules.specs.Todo.{Todo}
@@ -59,3 +61,8 @@ told_of (verdict.Failed ps) = outcome.Failed ps
 told_of (verdict.Committed n r d) = outcome.Committed n r d
 told_of (verdict.NotReady p) = outcome.NotReady p
 told_of verdict.Idle = outcome.Idle
+
+-- a batch comes to its receiver
+abbrev pub is_delivery : Event → Bool
+is_delivery (event.Deliver i) = true
+is_delivery _ = false

@@ -1,5 +1,5 @@
 -- Which part of its work comes next at a place, until the run is over and where no rebuild is open.
-use Rattle.std.specs.Prelude.{ℕ, nat_lt, Option, Some, None, if◌then◌else◌}
+use Rattle.std.specs.Prelude.{nat_lt, Option, Some, None, if◌then◌else◌}
 use Rattle.gr_view.specs.declared.coordinator.Coordinator.{Coordinator}
 use Rattle.gr_view.specs.Modes.{is_round}
 use Rattle.gr_cluster.specs.Tables.{Host}

@@ -1,5 +1,6 @@
 // A cluster at load, and a run of one that nothing disturbs.
-ghost use Rattle.std.specs.Prelude.{◌≡◌, ◌<◌, ◌-◌, ◌^◌, [], true, false, length};
+ghost use Rattle.std.specs.Prelude.{ℕ, ◌≡◌, ◌<◌, ◌-◌, ◌^◌, [], true, false, length};
+ghost use Rattle.gr_base.specs.Rising.{has as is_in};
 ghost use Rattle.gr_view.specs.Decisions.{looked_at};
 ghost use Rattle.gr_view.specs.Modes.{is_rebuild};
 ghost use Rattle.gr_cluster.specs.Step.{down_among};
@@ -76,16 +77,31 @@ fn both_places_hold_each_vertex_of_a_triangle(rt: HostRuntime) -> Result<(), Fai
     Ok(())
 }
 
-// Whether a round is open or the run is done, and no place is down.
+// Whether a round is open and no place is down.
 fn is_undisturbed(cluster: &Cluster<Shortest>) -> bool
     ensures rebuild { result ≡ true → is_rebuild cluster.now.cluster.coordinator.mode ≡ false }
     ensures up { result ≡ true → down_among cluster.now.cluster (looked_at cluster.now.cluster.coordinator) ≡ [] }
 {
     let coordinator = cluster.coordinator();
     match coordinator.mode {
-        Mode::Running | Mode::Done => cluster.up() == coordinator.parties(),
+        Mode::Running => includes(cluster.up(), coordinator.parties()),
         _ => false,
     }
+}
+
+// Whether all places of a set stand in another.
+fn includes(set: PlaceSet, places: PlaceSet) -> bool
+    ensures { result ≡ true → (p : ℕ) → is_in places p ≡ true → is_in set p ≡ true }
+{
+    let _places = places.has(0);
+    for p in 0..64 {
+        if places.has(p) {
+            if !set.has(p) {
+                return false;
+            }
+        }
+    }
+    true
 }
 
 // Whether no count of the cluster is at its end.

@@ -4,7 +4,7 @@ ghost use Rattle.gr_view.specs.Modes.{is_rebuild};
 ghost use Rattle.gr_view.specs.Decisions.{looked_at};
 ghost use Rattle.gr_cluster.specs.Step.{step, down_among};
 ghost use Rattle.gr_law_runs.specs.Law.{is_plain};
-ghost use Rattle.gr_core.specs.Steps.{takes_memory};
+ghost use Rattle.gr_core.specs.Steps.{is_delivery, takes_memory};
 
 use crate::cluster::Cluster;
 use crate::turn::is_over;
@@ -36,7 +36,7 @@ impl<P: VertexProgram> Cluster<P> {
         ensures ok { IfOk result (λ outcome. (self.new.cluster, outcome) ≡ step (P.program_of self.old.program) self.old.cluster event) }
         ensures program { self.new.program ≡ self.old.program }
         ensures err { OnErr result (self.new ≡ self.old) }
-        ensures told { takes_memory (step (P.program_of self.old.program) self.old.cluster event).1 ≡ false → IsOk result }
+        ensures told { is_delivery event ≡ false → takes_memory (step (P.program_of self.old.program) self.old.cluster event).1 ≡ false → IsOk result }
     {
         if is_over(self.mode()) {
             return Ok(Outcome::Idle);

@@ -205,7 +205,7 @@ fn act_in_round<P: VertexProgram>(
     requires serial { serial.old < 2 ^ 64 - 1 }
     ensures ok { (logs : List Log) (places losses : ℕ) (h : Held P.Value P.Acc) → get_or hosts.old.items p None ≡ Some h
         → IfOk result (λ outcome. (cluster_of hosts.new.items logs flight.new serial.new coordinator.new places losses theta, outcome)
-            ≡ worked (P.program_of program.now) (cluster_of hosts.old.items logs flight.old serial.old coordinator.old places losses theta) p h (todo coordinator.old p h)) }
+        ≡ worked (P.program_of program.now) (cluster_of hosts.old.items logs flight.old serial.old coordinator.old places losses theta) p h (todo coordinator.old p h)) }
     ensures told { (h : Held P.Value P.Acc) → get_or hosts.old.items p None ≡ Some h → IsTrue (is_told (todo coordinator.old p h)) → IsOk result }
     ensures hosts_kept { OnErr result (hosts.new.items ≡ hosts.old.items) }
     ensures flight_kept { OnErr result (flight.new ≡ flight.old) }

@@ -1,4 +1,4 @@
-use Rattle.std.proofs.Common.{◌≡◌, ◌∙◌, sym, ap, subst, refl, false, Some}
+use Rattle.std.proofs.Common.{◌≡◌, ◌∙◌, sym, ap, refl, false}
 use Rattle.gr_sched.specs.declared.event.Event.TheVariants as event
 use Rattle.gr_view.specs.Modes.{is_over, is_rebuild}
 use Rattle.gr_cluster.specs.Tables.{Cluster, host}
@@ -37,7 +37,7 @@ invariant_of-self g c =
     let T = turn-act k.coordinator (host k p) next in
     let a = c.act_in_round in
     let ok = IfOk-same (record k { hosts = a.new.hosts.items; flight = a.new.flight; serial = a.new.serial; coordinator = a.new.coordinator }) (worked P k p T.at (todo k.coordinator p T.at)) (step P k (event.Work p)) a.result
-        (sym (work-step P k p over T.at (todo k.coordinator p T.at) T.is refl)) (a.ensures.ok s.logs.items s.places s.losses T.at T.is) in
+    (sym (work-step P k p over T.at (todo k.coordinator p T.at) T.is refl)) (a.ensures.ok s.logs.items s.places s.losses T.at T.is) in
     Invariant-stepped P k (record k { hosts = a.new.hosts.items; flight = a.new.flight; serial = a.new.serial; coordinator = a.new.coordinator }) (step P k (event.Work p)) a.result ok
     (OnErr-all k a.new.hosts.items a.new.flight a.new.serial a.new.coordinator a.result a.ensures.hosts_kept a.ensures.flight_kept a.ensures.serial_kept a.ensures.coordinator_kept)
     c.self.invariant (work-invariant P k p over (g.met.P.VertexProgram.laws s.program) none c.self.invariant)
@@ -54,7 +54,7 @@ returns-clause-ok g c =
     let T = turn-act k.coordinator (host k p) next in
     let a = c.act_in_round in
     let ok = IfOk-same (record k { hosts = a.new.hosts.items; flight = a.new.flight; serial = a.new.serial; coordinator = a.new.coordinator }) (worked P k p T.at (todo k.coordinator p T.at)) (step P k (event.Work p)) a.result
-        (sym (work-step P k p over T.at (todo k.coordinator p T.at) T.is refl)) (a.ensures.ok s.logs.items s.places s.losses T.at T.is) in
+    (sym (work-step P k p over T.at (todo k.coordinator p T.at) T.is refl)) (a.ensures.ok s.logs.items s.places s.losses T.at T.is) in
     rw (← c.self.view_is) ok
 
 pub returns-clause-told : goal.returns-clause-told
@@ -70,5 +70,5 @@ returns-clause-told g c = λ light.
     let M = may-work P (g.met.P.VertexProgram.laws s.program) c.self.invariant.0 k c.self.invariant.1 over none p T.at T.is (ap (turn_of k.coordinator) (sym T.is) ∙ next) in
     let step_is = work-step P k p over T.at (todo k.coordinator p T.at) T.is refl in
     let light' : takes_memory (worked P k p T.at (todo k.coordinator p T.at)).1 ≡ false
-        = sym (ap (λ x. takes_memory x.1) step_is) ∙ (ap (λ x. takes_memory (step (g.P.VertexProgram.program_of x.program) x.cluster (event.Work p)).1) c.self.view_is ∙ light) in
+    = sym (ap (λ x. takes_memory x.1) step_is) ∙ (ap (λ x. takes_memory (step (g.P.VertexProgram.program_of x.program) x.cluster (event.Work p)).1) c.self.view_is ∙ light) in
     c.act_in_round.ensures.told T.at T.is (told-next P k p T.at M light')

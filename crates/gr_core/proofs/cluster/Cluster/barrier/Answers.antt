@@ -1,11 +1,9 @@
-use Rattle.std.proofs.Common.{◌≡◌, ◌∙◌, ◌<◌, ◌-◌, ◌^◌, sym, ap, subst, refl, false, []}
-use Rattle.gr_sched.specs.declared.event.Event.TheVariants as event
+use Rattle.std.proofs.Common.{◌≡◌, ◌∙◌, ◌<◌, ◌-◌, ◌^◌, sym, ap, subst, false, []}
 use Rattle.gr_view.specs.Modes.{is_over, is_rebuild}
 use Rattle.gr_view.specs.Decisions.{looked_at, at_barrier}
 use Rattle.gr_cluster.specs.Tables.{Cluster}
-use Rattle.gr_cluster.specs.Step.{step, down_among}
+use Rattle.gr_cluster.specs.Step.{down_among}
 use Rattle.gr_agree.specs.Agree.{Invariant}
-use Rattle.gr_core.specs.Steps.{told_of}
 use Rattle.gr_core.proofs.Barrier.{barrier-step, barrier-invariant}
 use Rattle.gr_core.proofs.cluster.Cluster.barrier.Goals as goal
 

@@ -1,8 +1,6 @@
 use Rattle.std.proofs.Common.{◌≡◌, ◌∙◌, sym, ap, subst, true, false, slice_get}
-use Rattle.gr_sched.specs.declared.event.Event.TheVariants as event
 use Rattle.gr_view.specs.Modes.{is_over}
 use Rattle.gr_cluster.specs.Tables.{Cluster}
-use Rattle.gr_cluster.specs.Step.{step}
 use Rattle.gr_agree.specs.Agree.{Invariant}
 use Rattle.gr_core.specs.Steps.{may_drop}
 use Rattle.gr_core.proofs.Network.{drop-idle, drop-step, drop-invariant}

@@ -1,8 +1,6 @@
-use Rattle.std.proofs.Common.{◌≡◌, ◌∙◌, ◌<◌, ℕ, sym, ap, subst, true, false, length, arith}
-use Rattle.gr_sched.specs.declared.event.Event.TheVariants as event
+use Rattle.std.proofs.Common.{◌≡◌, ◌∙◌, sym, ap, subst, false}
 use Rattle.gr_view.specs.Modes.{is_over, is_rebuild}
 use Rattle.gr_cluster.specs.Tables.{Cluster, host}
-use Rattle.gr_cluster.specs.Step.{step}
 use Rattle.gr_agree.specs.Agree.{Invariant}
 use Rattle.gr_core.specs.declared.turn.Turn.TheVariants as turn
 use Rattle.gr_core.specs.Turns.{turn_of}

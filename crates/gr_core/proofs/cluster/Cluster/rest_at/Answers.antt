@@ -1,5 +1,4 @@
-use Rattle.std.proofs.Common.{◌≡◌, ◌∙◌, sym, ap, refl, false}
-use Rattle.gr_sched.specs.declared.event.Event.TheVariants as event
+use Rattle.std.proofs.Common.{◌≡◌, ◌∙◌, ap, false}
 use Rattle.gr_view.specs.Modes.{is_over, is_rebuild}
 use Rattle.gr_cluster.specs.Tables.{Cluster, host}
 use Rattle.gr_core.specs.declared.turn.Turn.TheVariants as turn

@@ -1,4 +1,4 @@
-use Rattle.std.proofs.Common.{◌≡◌, ◌∙◌, sym, ap, Some, None, slice_get}
+use Rattle.std.proofs.Common.{◌∙◌, sym, ap, slice_get}
 use Rattle.std.specs.Prelude.{option_copied}
 use Rattle.gr_core.proofs.Network.{delivered-none, delivered-some}
 use Rattle.gr_core.proofs.cluster.network.deliver_from.Goals as goal

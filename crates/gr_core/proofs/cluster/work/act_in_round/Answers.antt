@@ -1,5 +1,4 @@
-use Rattle.std.proofs.Common.{◌≡◌, ◌∙◌, ◌<◌, ◌+◌, ◌^◌, arith, sym, ap, subst, refl, false, [], get_or, set, length, None, Some}
-use Rattle.std.proofs.lemmas.List.{length-set}
+use Rattle.std.proofs.Common.{◌<◌, arith, sym, subst, [], get_or, length, None}
 use Rattle.gr_round.specs.declared.act.Act.TheVariants as act
 use Rattle.gr_core.specs.Works.{cluster_of}
 use Rattle.gr_core.proofs.Acting.{up-is, OnErr-then, needs-here, answer-seen, hosts-seen, report-fits, line-fits, sent-ok, sent-same, done-computed, done-waiting, done-rest, done-ready}
