@@ -1,5 +1,5 @@
 // A cluster at load, and a run of one that nothing disturbs.
-ghost use Rattle.std.specs.Prelude.{ℕ, ◌≡◌, ◌<◌, ◌-◌, ◌^◌, [], true, false, length};
+ghost use Rattle.std.specs.Prelude.{ℕ, ◌≡◌, ◌≤◌, ◌<◌, ◌-◌, ◌^◌, [], true, false, length};
 ghost use Rattle.gr_base.specs.Rising.{has as is_in};
 ghost use Rattle.gr_view.specs.Decisions.{looked_at};
 ghost use Rattle.gr_view.specs.Modes.{is_rebuild};
@@ -17,12 +17,16 @@ use gr_view::Mode;
 use std::alloc::Global;
 use std::test::Fail;
 
-const TRIANGLE: &[u8] = b"0 1\n1 2\n0 2";
-
-fn loaded(alloc: Global, graph: &[u8]) -> Result<Cluster<Shortest>, Fail> {
+fn loaded(alloc: Global, graph: &[u8]) -> Result<Cluster<Shortest>, Fail>
+    requires { length graph.now ≤ 268435456 }
+{
     let graph = read_graph(alloc, graph, false)?;
     let job = read_job(alloc, b"places = 2\nprogram = \"shortest\"\nsource = 0\n")?;
     Ok(Cluster::load(alloc, &graph, &job, Shortest { source: 0 })?)
+}
+
+fn triangle(alloc: Global) -> Result<Cluster<Shortest>, Fail> {
+    loaded(alloc, b"0 1\n1 2\n0 2")
 }
 
 fn copy_at(cluster: &Cluster<Shortest>, p: u8, v: u32) -> Option<VertexCopy<Distance>> {
@@ -53,7 +57,7 @@ fn everywhere(
 
 #[test]
 fn both_places_hold_each_vertex_of_a_triangle(rt: HostRuntime) -> Result<(), Fail> {
-    let cluster = loaded(rt.alloc(), TRIANGLE)?;
+    let cluster = triangle(rt.alloc())?;
     assert_eq!(rt; cluster.places(), 2);
     assert_eq!(rt; cluster.up(), PlaceSet::all(2));
     assert_eq!(rt; cluster.flight_len(), 0);
@@ -163,7 +167,7 @@ fn a_graph_without_vertices_is_done_at_load(rt: HostRuntime) -> Result<(), Fail>
 
 #[test]
 fn a_run_ends_with_the_distances(rt: HostRuntime) -> Result<(), Fail> {
-    let mut cluster = loaded(rt.alloc(), TRIANGLE)?;
+    let mut cluster = triangle(rt.alloc())?;
     assert_eq!(rt; result_at(&cluster, 0)?, None);
     for _ in 0..100 {
         take(&mut cluster, Event::Work(1))?;
@@ -186,7 +190,7 @@ fn a_run_ends_with_the_distances(rt: HostRuntime) -> Result<(), Fail> {
 
 #[test]
 fn the_types_have_these_fields_and_no_others(rt: HostRuntime) -> Result<(), Fail> {
-    let cluster = loaded(rt.alloc(), TRIANGLE)?;
+    let cluster = triangle(rt.alloc())?;
     let Cluster {
         alloc: _,
         hosts,

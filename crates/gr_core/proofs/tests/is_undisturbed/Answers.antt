@@ -16,5 +16,5 @@ returns-in-Running-clause-up c e =
     let told : t.coordinator ≡ co = sym c.coordinator-coordinator.ensures in
     let open_round : is_failed t.coordinator.mode ≡ false = ap (λ x. is_failed x.mode) told ∙ ap is_failed c.in-Running.is in
     let in_up : (q : ℕ) → has (parties t.coordinator) q ≡ true → has (filter (is_up t) (below t.places)) q ≡ true = λ q m.
-        ap (λ ps. has ps q) (sym c.up.ensures) ∙ c.includes.ensures e q (ap (λ ps. has ps q) (c.parties.ensures ∙ ap parties (sym told)) ∙ m) in
+    ap (λ ps. has ps q) (sym c.up.ensures) ∙ c.includes.ensures e q (ap (λ ps. has ps q) (c.parties.ensures ∙ ap parties (sym told)) ∙ m) in
     ap (λ b. down_among t (if b then t.coordinator.live else parties t.coordinator)) open_round ∙ none-down t in_up
