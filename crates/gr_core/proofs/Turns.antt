@@ -67,11 +67,11 @@ module _ {V A : Type 0} (P : Program V A) (c : Cluster V A) (p : ℕ) (over : is
   pub work-step : (h : Host V A) (x : Todo) → host c p ≡ Some h → todo c.coordinator p h ≡ x → step P c (event.Work p) ≡ worked P c p h x
   work-step h x at next = step-taken P c (event.Work p) over ∙ (ap (worked_at P c p) at ∙ ap (worked P c p h) next)
 
-  todo-install : (h : Host V A) → nat_lt h.installed c.coordinator.commits ≡ true → todo c.coordinator p h ≡ Todo.Install
+  pub todo-install : (h : Host V A) → nat_lt h.installed c.coordinator.commits ≡ true → todo c.coordinator p h ≡ Todo.Install
   unfolding todo
   todo-install h less = rw (over, less) refl
 
-  todo-adopt : (h : Host V A) → nat_lt h.installed c.coordinator.commits ≡ false → nat_lt h.epoch c.coordinator.epoch ≡ true → todo c.coordinator p h ≡ Todo.Adopt
+  pub todo-adopt : (h : Host V A) → nat_lt h.installed c.coordinator.commits ≡ false → nat_lt h.epoch c.coordinator.epoch ≡ true → todo c.coordinator p h ≡ Todo.Adopt
   unfolding todo
   todo-adopt h installed less = rw (over, installed, less) refl
 

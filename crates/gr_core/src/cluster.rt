@@ -7,6 +7,7 @@ ghost use Rattle.gr_core.specs.Loaded.{setting_of};
 ghost use Rattle.gr_core.specs.Tables as tables;
 
 mod barrier;
+mod can_work;
 mod network;
 mod results;
 mod step;
