@@ -1,0 +1,12 @@
+pub mod AtPlace
+pub mod Canonical
+pub mod Cases
+pub mod Deadlock
+pub mod Decided
+pub mod Less
+pub mod Losing
+pub mod Places
+pub mod Stages
+pub mod Sums
+pub mod Unruled
+pub mod Work
