@@ -1,6 +1,8 @@
 pub mod AtPlace
+pub mod Bounded
 pub mod Canonical
 pub mod Cases
+pub mod Counts
 pub mod Deadlock
 pub mod Decided
 pub mod Less

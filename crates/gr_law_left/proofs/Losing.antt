@@ -22,7 +22,7 @@ module _ {V A : Type 0} (c : Cluster V A) where
       (λ e. subst (λ r. left_where c.coordinator r (host (with_host p o c) r) ≤ left_where c.coordinator r (host c r)) (sym e) le)
       (λ ne. let same = ap (left_where c.coordinator q) (get_or-set_other c.hosts p q o None ne) in omega (arith, same)))
 
-  removed-shorter : (b : Batch V A) (i : ℕ) → slice_get c.flight i ≡ Some b → length (remove c.flight i) + 1 ≡ length c.flight
+  pub removed-shorter : (b : Batch V A) (i : ℕ) → slice_get c.flight i ≡ Some b → length (remove c.flight i) + 1 ≡ length c.flight
   removed-shorter b i is = let all = count_by-all c.flight in let rest = count_by-all (remove c.flight i) in let one = count_by-remove (λ _. true) b c.flight i is in omega (arith, all, rest, one)
 
   -- what a place has left does not depend on its inbox

@@ -1,11 +1,29 @@
-//! The laws of how much is left: of an epoch, of its bounds, and of the counts that steps raise.
+//! The laws of how much is left: what lowers it, what bounds it, and the counts that a step raises.
 #![tactic(auto)]
 
-ghost use Rattle.gr_agree.specs.Bounds.{LeavesLess};
+ghost use Rattle.gr_agree.specs.Bounds.{LeavesLess, LeftIsBounded, StepsByOne};
+ghost use Rattle.gr_law_left.specs.Law.{NeverLeavesMore};
 
 /// Until the run is over something is left, and each canonical event inside an epoch leaves less, in every mode. So a
 /// cluster to which only canonical events come never stands still: where no batch is in flight and no place can work,
 /// every party has reported, and the barrier decides.
 pub fn each_event_leaves_less<V, A>()
     ensures { LeavesLess V A }
+{}
+
+/// Whatever event comes, a crash or a drop too: as long as the epoch stays, no more is left than before.
+pub fn no_event_leaves_more<V, A>()
+    ensures { NeverLeavesMore V A }
+{}
+
+/// What is left grows with the batches in flight and with the square of the number of places that take part, and so
+/// does the number of canonical events of an epoch.
+pub fn what_is_left_is_bounded<V, A>()
+    ensures { LeftIsBounded V A }
+{}
+
+/// A step of any cluster, whether it agrees with a committed state or not, adds at most one to the epoch, the commits,
+/// the rounds, the serial numbers and the batches in flight.
+pub fn steps_raise_by_one<V, A>()
+    ensures { StepsByOne V A }
 {}
