@@ -6,7 +6,8 @@ use Rattle.gr_batch.specs.declared.batch.Batch.{Batch}
 use Rattle.gr_view.specs.declared.coordinator.Coordinator.{Coordinator}
 use Rattle.gr_rules.specs.Todo.{Todo}
 use Rattle.gr_cluster.specs.Tables.{Host, Cluster, host}
-use Rattle.gr_cluster.specs.Work.{worked}
+use Rattle.gr_cluster.specs.Todo.{todo}
+use Rattle.gr_cluster.specs.Work.{worked, worked_at}
 use Rattle.gr_cluster.specs.Network.{delivered, dropped, crashed}
 use Rattle.gr_lists.proofs.Tests.{by_test}
 
@@ -31,6 +32,10 @@ module _ {V A : Type 0} (P : Program V A) (c : Cluster V A) where
   worked-unruled p h Todo.Rest = unruled c.coordinator
   worked-unruled p h (Todo.Send q) = unruled c.coordinator
   worked-unruled p h (Todo.Wait s q) = unruled c.coordinator
+
+  pub worked_at-unruled : (p : ℕ) (o : Option (Host V A)) → IsUnruled c.coordinator (worked_at P c p o).0.coordinator
+  worked_at-unruled p None = unruled c.coordinator
+  worked_at-unruled p (Some h) = worked-unruled p h (todo c.coordinator p h)
 
   pub delivered-unruled : (i : ℕ) (o : Option (Batch V A)) → IsUnruled c.coordinator (delivered c i o).0.coordinator
   unfolding delivered

@@ -3,6 +3,7 @@
 
 ghost use Rattle.gr_agree.specs.Bounds.{LeavesLess, LeftIsBounded, StepsByOne};
 ghost use Rattle.gr_law_left.specs.Law.{NeverLeavesMore};
+ghost use Rattle.gr_law_left.specs.ToGo.{UndisturbedGoesOn, StretchIsShort};
 
 /// Until the run is over something is left, and each canonical event inside an epoch leaves less, in every mode. So a
 /// cluster to which only canonical events come never stands still: where no batch is in flight and no place can work,
@@ -26,4 +27,16 @@ pub fn what_is_left_is_bounded<V, A>()
 /// the rounds, the serial numbers and the batches in flight.
 pub fn steps_raise_by_one<V, A>()
     ensures { StepsByOne V A }
+{}
+
+/// Where nothing disturbs a cluster, the canonical event is a work of a place, a delivery or a barrier, and each brings
+/// the end nearer by the measure `to_go`; other works, deliveries, drops and barriers bring it no further away. The
+/// canonical events stop where the run is done.
+pub fn undisturbed_goes_on<V, A>()
+    ensures { UndisturbedGoesOn V A }
+{}
+
+/// The events of `finish` inside one epoch are as few as what is left at its start allows.
+pub fn a_stretch_is_short<V, A>()
+    ensures { StretchIsShort V A }
 {}
