@@ -1,5 +1,5 @@
 -- What a place has left, and how each of its works lowers it.
-use Rattle.std.proofs.Common.{◌≡◌, ℕ, ◌+◌, ◌<◌, ◌≤◌, List, [], Bool, true, false, cond, not, ◌==◌, ◌&&◌, nat_lt, refl, sym, ap, ◌∙◌, subst, arith, Option, Some, None, length, le-ltb, lt-ltb, ne_eqb, if◌then◌else◌}
+use Rattle.std.proofs.Common.{◌≡◌, ℕ, ◌+◌, ◌<◌, ◌≤◌, List, [], Bool, true, false, cond, not, ◌==◌, ◌&&◌, nat_lt, refl, sym, ◌∙◌, subst, arith, Some, le-ltb, lt-ltb, ne_eqb}
 use Rattle.std.specs.Prelude.{sum_by, IsTrue}
 use Rattle.std.proofs.lemmas.List.Sums.{sum_by-le-sum_by}
 use Rattle.std.proofs.lemmas.Bool.{and_right, not-true}
@@ -8,10 +8,10 @@ use Rattle.gr_base.specs.Rising.{has}
 use Rattle.gr_base.specs.Places.{with_place}
 use Rattle.gr_program.specs.declared.copy.VertexCopy.{VertexCopy}
 use Rattle.gr_batch.specs.declared.stage.Stage.{Stage}
-use Rattle.gr_batch.specs.Stages.{place_in, code_of, is_stage, is_end, stage_after}
+use Rattle.gr_batch.specs.Stages.{code_of, is_stage, is_end, stage_after}
 use Rattle.gr_view.specs.declared.coordinator.Coordinator.{Coordinator}
 use Rattle.gr_view.specs.Modes.{is_open, is_rebuild}
-use Rattle.gr_rules.specs.Exchange.{Exchange, begun, computed, passed, sent_to, unsent}
+use Rattle.gr_rules.specs.Exchange.{Exchange, begun, computed, sent_to, unsent}
 use Rattle.gr_cluster.specs.Tables.{Host}
 use Rattle.gr_cluster.specs.Stages.{stages_of, has_stage, first_stage}
 use Rattle.gr_cluster.specs.Todo.{others}
@@ -75,7 +75,7 @@ module _ {V A : Type 0} (co : Coordinator) (p : ℕ) (h : Host V A) where
       let now : nat_lt co.epoch co.epoch ≡ false = le-ltb _ _ (omega arith) in
       let unappended : ((co.epoch == co.epoch) && false) ≡ false = and_right _ false refl in
       let stages = sum_by-le-sum_by (left_in (co.epoch == co.epoch) (others co p) (begun (first_stage co.mode))) (left_in false (others co p) (exchange_of h)) (stages_of co.mode)
-          (λ s. let most = left_in-most (co.epoch == co.epoch) (others co p) (begun (first_stage co.mode)) s in let all = left_in-all false (others co p) (exchange_of h) s refl refl in omega (arith, most, all)) in
+      (λ s. let most = left_in-most (co.epoch == co.epoch) (others co p) (begun (first_stage co.mode)) s in let all = left_in-all false (others co p) (exchange_of h) s refl refl in omega (arith, most, all)) in
       rw (was, older, now, unappended) (omega (arith, stages))
 
   -- where it has adopted the epoch

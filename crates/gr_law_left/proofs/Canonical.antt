@@ -1,6 +1,6 @@
 -- The cases of the canonical event, each with what its tests said.
-use Rattle.std.proofs.Common.{◌≡◌, ℕ, ◌<◌, List, [], ◌∷◌, Bool, true, false, not, ◌&&◌, find, take, refl, sym, ap, ◌∙◌, subst, arith, Option, Some, None}
-use Rattle.std.proofs.lemmas.Bool.{and_parts, not-true, both_ways}
+use Rattle.std.proofs.Common.{◌≡◌, ℕ, ◌<◌, List, [], ◌∷◌, true, false, not, ◌&&◌, find, take, refl, sym, ap, ◌∙◌, subst, arith, Option, Some, None}
+use Rattle.std.proofs.lemmas.Bool.{and_parts, not-true}
 use Rattle.gr_base.specs.Places.{below}
 use Rattle.gr_batch.specs.declared.batch.Batch.{Batch}
 use Rattle.gr_sched.specs.declared.event.Event.{Event}

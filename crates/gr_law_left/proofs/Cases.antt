@@ -1,6 +1,6 @@
 -- The cases of what a place does next, in every mode, each with what its tests said.
 use Rattle.std.proofs.Common.{◌≡◌, ℕ, ◌<◌, ◌≤◌, Bool, true, false, not, ◌&&◌, refl, sym, ap, ◌∙◌, subst, Option, Some, None, ltb-true, ltb-false, nat_lt}
-use Rattle.std.proofs.lemmas.Bool.{and_parts, and_from, not-true, not-false, both_ways, true_from_ne_false, false_from_ne_true}
+use Rattle.std.proofs.lemmas.Bool.{and_parts, not-true}
 use Rattle.gr_batch.specs.declared.stage.Stage.{Stage}
 use Rattle.gr_batch.specs.Stages.{is_end}
 use Rattle.gr_view.specs.declared.coordinator.Coordinator.{Coordinator}

@@ -1,12 +1,11 @@
 -- How the counts of a cluster go up in a step.
-use Rattle.std.proofs.Common.{◌≡◌, ℕ, ◌+◌, ◌<◌, ◌≤◌, List, [], ◌∷◌, Bool, true, false, ◌||◌, refl, sym, ap, ◌∙◌, subst, arith, Option, Some, None, length, slice_get, remove, le_refl}
+use Rattle.std.proofs.Common.{◌≡◌, ℕ, ◌+◌, ◌≤◌, List, [], ◌∷◌, false, ◌||◌, refl, sym, ap, subst, arith, Option, Some, None, length, slice_get, remove, le_refl}
 use Rattle.std.specs.Prelude.{nat_lt, is_none}
 use Rattle.std.proofs.lemmas.List.{length-append}
 use Rattle.gr_program.specs.Program.{Program}
 use Rattle.gr_batch.specs.declared.batch.Batch.{Batch}
 use Rattle.gr_sched.specs.declared.event.Event.{Event}
 use Rattle.gr_sched.specs.declared.event.Event.TheVariants as event
-use Rattle.gr_view.specs.declared.coordinator.Coordinator.{Coordinator}
 use Rattle.gr_view.specs.declared.coordinator.Mode.{Mode}
 use Rattle.gr_view.specs.declared.coordinator.Mode.TheVariants as mode
 use Rattle.gr_view.specs.Modes.{is_failed, is_over, is_rebuild, is_recovery}
@@ -17,11 +16,11 @@ use Rattle.gr_cluster.specs.Todo.{todo}
 use Rattle.gr_cluster.specs.Place.{batch_to}
 use Rattle.gr_cluster.specs.Work.{worked, worked_at}
 use Rattle.gr_cluster.specs.Network.{delivered, dropped, crashed}
-use Rattle.gr_cluster.specs.Step.{down_among, without_hosts, with_coordinator, after_verdict, barred, lost_list, after_opening, recovered, opened_or_idle, repaired, discarded_or_idle, discarded, taken_step, step}
+use Rattle.gr_cluster.specs.Step.{down_among, without_hosts, with_coordinator, after_verdict, barred, lost_list, recovered, opened_or_idle, repaired, discarded_or_idle, discarded, taken_step, step}
 use Rattle.gr_agree.specs.Bounds.{IsRaisedByOne}
 use Rattle.gr_lists.proofs.Tests.{by_test, by_option}
 use Rattle.gr_law_left.proofs.Losing.{removed-shorter}
-use Rattle.gr_law_left.proofs.Unruled.{IsUnruled, unruled, worked-unruled, delivered-unruled, dropped-unruled, crashed-unruled}
+use Rattle.gr_law_left.proofs.Unruled.{IsUnruled, unruled, worked-unruled, delivered-unruled, crashed-unruled}
 use Rattle.gr_law_left.proofs.Less.{step-over, step-taken}
 
 module _ {V A : Type 0} (c : Cluster V A) where

@@ -1,11 +1,10 @@
 -- No cluster stands still: where no batch is in flight and no place can work, every party has reported.
-use Rattle.std.proofs.Common.{◌≡◌, ◌≢◌, ℕ, zero, suc, ◌+◌, ◌<◌, ◌≤◌, List, [], Bool, true, false, cond, not, ◌==◌, ◌&&◌, ◌||◌, nat_lt, refl, sym, ap, ◌∙◌, subst, arith, Option, Some, None, eq-eqb, ltb-false, ⊎_elim, inl, inr}
+use Rattle.std.proofs.Common.{◌≡◌, ◌≢◌, ℕ, zero, suc, ◌<◌, ◌≤◌, List, [], Bool, true, false, cond, not, ◌==◌, ◌&&◌, ◌||◌, nat_lt, refl, sym, ap, ◌∙◌, subst, arith, Some, None, eq-eqb, ltb-false, ⊎_elim, inl, inr}
 use Rattle.std.specs.Prelude.{count_by, is_some, ◌⊎◌}
 use Rattle.std.specs.List.{list_any}
 use Rattle.std.proofs.lemmas.Bool.{and_parts, and_from, both_ways, not-true, or_parts}
 use Rattle.gr_base.specs.Rising.{has}
 use Rattle.gr_program.specs.Program.{Program}
-use Rattle.gr_batch.specs.declared.batch.Batch.{Batch}
 use Rattle.gr_batch.specs.declared.stage.Stage.{Stage}
 use Rattle.gr_batch.specs.declared.stage.Stage.TheVariants as stage
 use Rattle.gr_batch.specs.Stages.{place_in, is_stage, is_end}
@@ -14,15 +13,14 @@ use Rattle.gr_view.specs.declared.coordinator.Coordinator.{Coordinator}
 use Rattle.gr_view.specs.declared.coordinator.Mode.{Mode}
 use Rattle.gr_view.specs.declared.coordinator.Mode.TheVariants as mode
 use Rattle.gr_view.specs.Decisions.{parties, unready}
-use Rattle.gr_view.specs.Modes.{is_open, is_over, is_failed, is_rebuild}
-use Rattle.gr_rules.specs.Exchange.{needed, unsent}
+use Rattle.gr_view.specs.Modes.{is_open, is_over, is_rebuild}
+use Rattle.gr_rules.specs.Exchange.{needed}
 use Rattle.gr_rules.specs.Inbox.{missing}
-use Rattle.gr_rules.specs.Todo.{Todo, is_act}
-use Rattle.gr_cluster.specs.Tables.{Host, Cluster, host, is_up, inbox_of}
+use Rattle.gr_rules.specs.Todo.{is_act}
+use Rattle.gr_cluster.specs.Tables.{Host, Cluster, host, is_up}
 use Rattle.gr_cluster.specs.Stages.{stages_of, has_stage}
-use Rattle.gr_cluster.specs.Todo.{others, todo, can_work}
+use Rattle.gr_cluster.specs.Todo.{others, todo}
 use Rattle.gr_agree.specs.Truth.{Truth}
-use Rattle.gr_agree.specs.Hosts.{progress}
 use Rattle.gr_agree.specs.Network.{is_shown, shows_sent, standing}
 use Rattle.gr_agree.specs.Agree.{Agree}
 use Rattle.gr_lists.proofs.Tests.{by_test, by_option}
@@ -106,8 +104,8 @@ module _ {V A : Type 0} (P : Program V A) (t : Truth V) (c : Cluster V A) (AG : 
     idle = λ K o w n y. absurd (both_ways _ w opened);
     send = λ K o z e q u y. acts y;
     all_sent = λ K z e u y. absurd (
-      let some = find-any (λ q. not (has h.sent q)) (λ q. q ≡ q) (others co p) ((at-epoch P t c AG p h at K).unsent_left z e) (Each-always _ (λ q. refl) (others co p)) in
-      let found = some.1 in let bad : None ≡ Some some.0 = sym u ∙ found in cc);
+        let some = find-any (λ q. not (has h.sent q)) (λ q. q ≡ q) (others co p) ((at-epoch P t c AG p h at K).unsent_left z e) (Each-always _ (λ q. refl) (others co p)) in
+        let found = some.1 in let bad : None ≡ Some some.0 = sym u ∙ found in cc);
     append = λ K z r n y. acts y;
     report = λ K o z n y. acts y;
     rest = λ K z r y. record { current = K; has = inl r };

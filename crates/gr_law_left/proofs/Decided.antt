@@ -1,17 +1,17 @@
 -- What the decisions of the coordinator make of the epoch.
-use Rattle.std.proofs.Common.{◌≡◌, ℕ, ◌+◌, ◌≤◌, List, [], ◌∷◌, Bool, true, false, not, ◌&&◌, take, refl, sym, ap, ◌∙◌, arith, Option, Some, None, inl, inr, ⊎_elim, length, zero, suc, eq-eqb}
-use Rattle.std.specs.Prelude.{◌⊎◌, nat_lt, nat_le, if◌then◌else◌}
+use Rattle.std.proofs.Common.{◌≡◌, ℕ, ◌+◌, ◌≤◌, List, [], ◌∷◌, Bool, true, false, take, refl, arith, None, inl, inr, length, zero, suc, eq-eqb}
+use Rattle.std.specs.Prelude.{◌⊎◌, nat_lt, if◌then◌else◌}
 use Rattle.std.specs.List.{list_all}
 use Rattle.std.proofs.lemmas.Bool.{and_from, or_left, or_right, le-leb}
 use Rattle.std.proofs.lemmas.List.{length-take}
-use Rattle.gr_base.specs.Rising.{has, includes}
+use Rattle.gr_base.specs.Rising.{has}
 use Rattle.gr_view.specs.declared.coordinator.Coordinator.{Coordinator}
 use Rattle.gr_view.specs.declared.coordinator.Mode.{Mode}
 use Rattle.gr_view.specs.declared.coordinator.Mode.TheVariants as mode
 use Rattle.gr_view.specs.Modes.{is_failed, is_over, is_rebuild, is_recovery}
 use Rattle.gr_view.specs.Decisions.{parties, looked_at, unready, committed, verdict_on, at_barrier, may_recover, at_recovery, at_repair, at_discard, going_back}
 use Rattle.gr_cluster.specs.Tables.{Cluster}
-use Rattle.gr_cluster.specs.Step.{down_among, without_hosts, with_coordinator, after_verdict, barred, lost_list, after_opening, recovered, opened_or_idle, repaired, discarded_or_idle, discarded}
+use Rattle.gr_cluster.specs.Step.{down_among, without_hosts, with_coordinator, after_verdict, barred, lost_list, recovered, opened_or_idle, repaired, discarded_or_idle, discarded}
 use Rattle.gr_lists.proofs.Tests.{by_test, by_option}
 
 -- as many of the first numbers of a list as there may be: each stands in the list, and they are no more

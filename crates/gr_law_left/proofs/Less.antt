@@ -1,7 +1,7 @@
 -- Each canonical event inside an epoch leaves less, and no event leaves more.
-use Rattle.std.proofs.Common.{◌≡◌, ℕ, ◌+◌, ◌<◌, ◌≤◌, [], ◌∷◌, Bool, true, false, not, ◌&&◌, refl, sym, ap, ◌∙◌, subst, arith, Option, Some, None, length, slice_get, take, le_refl, ⊎_elim}
+use Rattle.std.proofs.Common.{◌≡◌, ℕ, ◌+◌, ◌<◌, ◌≤◌, [], true, false, not, ◌&&◌, refl, sym, ap, ◌∙◌, subst, arith, Option, Some, None, length, slice_get, take, le_refl, ⊎_elim}
 use Rattle.std.specs.List.{list_any}
-use Rattle.std.proofs.lemmas.Bool.{both_ways, and_cases, and_from, not-false, true_from_ne_false, false_from_ne_true, not_from_false}
+use Rattle.std.proofs.lemmas.Bool.{both_ways, and_from, true_from_ne_false, false_from_ne_true, not_from_false}
 use Rattle.std.proofs.lemmas.List.Sums.{length-filter}
 use Rattle.gr_base.specs.Rising.{has}
 use Rattle.gr_program.specs.Program.{Program}
@@ -9,7 +9,6 @@ use Rattle.gr_sched.specs.declared.event.Event.{Event}
 use Rattle.gr_sched.specs.declared.event.Event.TheVariants as event
 use Rattle.gr_view.specs.Modes.{is_failed, is_over}
 use Rattle.gr_view.specs.Decisions.{parties, looked_at, unready}
-use Rattle.gr_rules.specs.Todo.{is_act}
 use Rattle.gr_cluster.specs.Tables.{Host, Cluster, host, is_up}
 use Rattle.gr_cluster.specs.Todo.{todo, can_work}
 use Rattle.gr_cluster.specs.Work.{worked_at}
@@ -19,17 +18,17 @@ use Rattle.gr_cluster.specs.Canonical.{is_crash_unseen, next_canonical}
 use Rattle.gr_cluster.specs.Left.{left}
 use Rattle.gr_agree.specs.Truth.{Truth}
 use Rattle.gr_agree.specs.Agree.{Agree}
-use Rattle.gr_lists.proofs.Tests.{by_test, by_option}
+use Rattle.gr_lists.proofs.Tests.{by_test}
 use Rattle.gr_lists.proofs.Any.{has-filter}
 use Rattle.gr_lists.proofs.Counts.{some-counted}
 use Rattle.gr_law_network.proofs.Frame.{within}
 use Rattle.gr_law_left.proofs.Places.{unfinished, left-over, left-goes_on}
 use Rattle.gr_law_left.proofs.Unruled.{IsUnruled, worked-unruled, delivered-unruled, dropped-unruled, crashed-unruled}
 use Rattle.gr_law_left.proofs.Losing.{delivered-less, delivered-no_more, dropped-no_more, crashed-no_more}
-use Rattle.gr_law_left.proofs.Work.{Lowers, goes-on-open, work-lowers}
+use Rattle.gr_law_left.proofs.Work.{goes-on-open, work-lowers}
 use Rattle.gr_law_left.proofs.Deadlock.{all-ready}
 use Rattle.gr_law_left.proofs.Decided.{IsDecided, IsRaised, barred-decided, barred-raises, recovered-decided, recovered-raises, repaired-decided, discarded-decided}
-use Rattle.gr_law_left.proofs.Canonical.{IsQuiet, CanonicalCases, by-canonical, canonical-goes_on}
+use Rattle.gr_law_left.proofs.Canonical.{IsQuiet, by-canonical, canonical-goes_on}
 
 module _ {V A : Type 0} (P : Program V A) (c : Cluster V A) where
   pub step-over : is_over c.coordinator.mode ≡ true → (e : Event) → (step P c e).0 ≡ c
@@ -99,13 +98,15 @@ module _ {V A : Type 0} (P : Program V A) (t : Truth V) (c : Cluster V A) (AG : 
       clear : down_among c (looked_at c.coordinator) ≡ [] → (is_failed c.coordinator.mode ≡ false) × (unready c.coordinator ≡ None)
       clear none =
           let f = nobody-fails none in
-          let at_parties : down_among c (parties c.coordinator) ≡ [] = rw f at none in
-          (f, all-ready P t c AG goes_on (goes-on-open c.coordinator.mode goes_on f) Q.flight
-          (λ p party. true_from_ne_false _ (λ down.
-          let listed = has-filter (λ q. not (is_up c q)) (parties c.coordinator) p in
-          let nowhere : has (down_among c (parties c.coordinator)) p ≡ false = ap (λ l. has l p) at_parties in
-          both_ways _ (sym listed ∙ nowhere) (and_from _ _ party (not_from_false _ down))))
-          (λ p h at. sym (ap (can_work c.coordinator p) at) ∙ Q.places p (subst (λ n. p < n) AG.committed.shaped.hosts (within c p h h at))))
+          let at_parties : down_among c (parties c.coordinator) ≡ [] = rw f at none in (
+            f,
+            all-ready P t c AG goes_on (goes-on-open c.coordinator.mode goes_on f) Q.flight
+                (λ p party. true_from_ne_false _ (λ down.
+                let listed = has-filter (λ q. not (is_up c q)) (parties c.coordinator) p in
+                let nowhere : has (down_among c (parties c.coordinator)) p ≡ false = ap (λ l. has l p) at_parties in
+                both_ways _ (sym listed ∙ nowhere) (and_from _ _ party (not_from_false _ down))))
+                (λ p h at. sym (ap (can_work c.coordinator p) at) ∙ Q.places p (subst (λ n. p < n) AG.committed.shaped.hosts (within c p h h at))),
+          )
 
     abbrev canonical_recovery : Event
     canonical_recovery = event.Recover (take c.coordinator.spares c.coordinator.dead)

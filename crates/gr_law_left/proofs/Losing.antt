@@ -8,7 +8,7 @@ use Rattle.gr_view.specs.Decisions.{parties}
 use Rattle.gr_cluster.specs.Tables.{Host, Cluster, host, with_host}
 use Rattle.gr_cluster.specs.Network.{received, delivered, dropped, crashed}
 use Rattle.gr_cluster.specs.Left.{left_where}
-use Rattle.gr_lists.proofs.Tests.{by_same, by_test, by_option}
+use Rattle.gr_lists.proofs.Tests.{by_same, by_test}
 use Rattle.gr_lists.proofs.Counts.{count_by-remove}
 use Rattle.gr_law_network.proofs.Frame.{within, with_host-same, host-with_host}
 use Rattle.gr_law_left.proofs.Places.{left_of_parties, unfinished}

@@ -1,12 +1,12 @@
 -- What the parties of a cluster have left, and how it falls where the host of one place changes.
-use Rattle.std.proofs.Common.{◌≡◌, ◌≢◌, ℕ, ◌+◌, ◌<◌, ◌≤◌, List, Bool, true, false, ◌==◌, refl, sym, ap, ◌∙◌, subst, arith, Option, Some, None, length, eqb-true}
+use Rattle.std.proofs.Common.{◌≡◌, ℕ, ◌+◌, ◌≤◌, true, false, ◌==◌, refl, sym, ap, subst, arith, Some, length, eqb-true}
 use Rattle.std.specs.Prelude.{sum_by}
 use Rattle.gr_base.specs.Rising.{has}
 use Rattle.gr_view.specs.Decisions.{parties}
 use Rattle.gr_view.specs.Modes.{is_over}
 use Rattle.gr_cluster.specs.Tables.{Host, Cluster, host, with_host}
 use Rattle.gr_cluster.specs.Left.{left_at, left_where, left}
-use Rattle.gr_lists.proofs.Tests.{by_same, by_test}
+use Rattle.gr_lists.proofs.Tests.{by_same}
 use Rattle.gr_law_network.proofs.Frame.{host-with_host, host-with_host-other}
 use Rattle.gr_law_left.proofs.Sums.{sum_by-falls}
 

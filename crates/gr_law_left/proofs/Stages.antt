@@ -1,13 +1,13 @@
 -- What a place has left of one stage, and how that falls as the stage is computed, sent and passed.
-use Rattle.std.proofs.Common.{◌≡◌, ℕ, ◌+◌, ◌*◌, ◌<◌, ◌≤◌, List, [], Bool, true, false, cond, not, ◌==◌, ◌&&◌, ◌||◌, nat_lt, refl, sym, ap, ◌∙◌, arith, length, if◌then◌else◌, le-ltb, lt-ltb, ltb-true, eqb-true, eq-eqb}
+use Rattle.std.proofs.Common.{◌≡◌, ℕ, ◌+◌, ◌*◌, ◌<◌, ◌≤◌, List, Bool, true, false, cond, not, ◌==◌, ◌&&◌, nat_lt, sym, ap, ◌∙◌, arith, length, if◌then◌else◌, le-ltb, lt-ltb, ltb-true, eqb-true, eq-eqb}
 use Rattle.std.specs.Prelude.{count_by}
 use Rattle.std.proofs.lemmas.List.Sums.{count_by-le-length, sum_by-le-sum_by}
-use Rattle.std.proofs.lemmas.Bool.{or_left, or_right}
+use Rattle.std.proofs.lemmas.Bool.{or_right}
 use Rattle.gr_base.specs.Rising.{has}
 use Rattle.gr_base.specs.Places.{with_place}
 use Rattle.gr_batch.specs.declared.stage.Stage.{Stage}
 use Rattle.gr_batch.specs.declared.stage.Stage.TheVariants as stage
-use Rattle.gr_batch.specs.Stages.{place_in, code_of, is_stage, is_end, stage_after}
+use Rattle.gr_batch.specs.Stages.{place_in, is_stage, is_end, stage_after}
 use Rattle.gr_rules.specs.Exchange.{Exchange, begun}
 use Rattle.gr_lists.proofs.Tests.{by_test}
 use Rattle.gr_lists.proofs.Sets.{has-with_place}

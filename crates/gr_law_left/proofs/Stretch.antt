@@ -1,5 +1,5 @@
 -- The steps of `finish` in one epoch of an undisturbed cluster are no more than what is left at its start.
-use Rattle.std.proofs.Common.{◌≡◌, ℕ, zero, suc, ◌+◌, ◌-◌, ◌*◌, ◌<◌, ◌≤◌, List, [], ◌∷◌, refl, sym, ap, ◌∙◌, subst, arith, Option, Some, None, length}
+use Rattle.std.proofs.Common.{◌≡◌, ℕ, zero, suc, ◌-◌, ◌*◌, ◌≤◌, [], ◌∷◌, refl, sym, ap, ◌∙◌, arith, Option, Some, None, length}
 use Rattle.std.specs.Option.{option_or}
 use Rattle.gr_program.specs.Program.{Program, ProgramLaws}
 use Rattle.gr_sched.specs.declared.event.Event.{Event}
@@ -12,7 +12,7 @@ use Rattle.gr_cluster.specs.Left.{left}
 use Rattle.gr_cluster.specs.Runs.{Position, is_commit, lines_after, played_by, next_event, position_by, next_position, position_after, steps_of}
 use Rattle.gr_agree.specs.Truth.{Truth}
 use Rattle.gr_lists.proofs.Tests.{by_option}
-use Rattle.gr_law_runs.specs.Undisturbed.{Undisturbed, UndisturbedIn}
+use Rattle.gr_law_runs.specs.Undisturbed.{Undisturbed}
 use Rattle.gr_law_runs.proofs.Plain.{plain-undisturbed}
 use Rattle.gr_law_left.specs.ToGo.{finishing, IsShort}
 use Rattle.gr_law_left.proofs.Counts.{step-counts}

@@ -1,5 +1,5 @@
 -- Sums whose terms fall, and counts of the members of a list.
-use Rattle.std.proofs.Common.{◌≡◌, ℕ, ◌+◌, ◌*◌, ◌≤◌, List, [], ◌∷◌, Bool, true, false, cond, not, ◌==◌, refl, ap, sym, arith, length, eq-eqb}
+use Rattle.std.proofs.Common.{◌≡◌, ℕ, ◌+◌, ◌*◌, ◌≤◌, List, [], ◌∷◌, Bool, true, false, cond, not, ◌==◌, refl, ap, arith, length, eq-eqb}
 use Rattle.std.specs.Prelude.{sum_by, count_by}
 use Rattle.std.specs.List.{list_any}
 use Rattle.std.proofs.lemmas.List.Sums.{sum_by-cons, sum_by-le-sum_by, length-filter}
@@ -41,6 +41,6 @@ pub without-shorter : (xs : List ℕ) (p : ℕ) → has xs p ≡ true → length
 without-shorter xs p m =
     let kept = length-filter (λ q. not (q == p)) xs in let all = count_by-all xs in
     let fewer = sum_by-falls (λ q. cond {A = ℕ} (not (q == p)) 1 0) (λ q. cond {A = ℕ} true 1 0) (λ q. q == p) 1
-        (λ q. by_test (q == p) (λ e. rw e (omega arith)) (λ e. rw e (omega arith)))
-        (λ q e. rw e (omega arith)) xs m in
+    (λ q. by_test (q == p) (λ e. rw e (omega arith)) (λ e. rw e (omega arith)))
+    (λ q e. rw e (omega arith)) xs m in
     omega (arith, kept, all, fewer)

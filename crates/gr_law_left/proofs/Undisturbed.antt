@@ -1,9 +1,8 @@
 -- An undisturbed cluster goes to its end: each canonical event brings it nearer, and no plain event takes it further away.
-use Rattle.std.proofs.Common.{◌≡◌, ℕ, ◌-◌, ◌*◌, ◌<◌, ◌≤◌, List, [], ◌∷◌, true, false, max, refl, sym, ap, ◌∙◌, subst, arith, Option, Some, None, length, slice_get, ⊎_elim}
+use Rattle.std.proofs.Common.{◌≡◌, ℕ, ◌-◌, ◌*◌, ◌<◌, ◌≤◌, List, [], ◌∷◌, true, false, max, refl, sym, ap, ◌∙◌, subst, arith, Some, None, length, slice_get, ⊎_elim}
 use Rattle.std.specs.Prelude.{IsTrue}
 use Rattle.std.proofs.lemmas.Bool.{both_ways}
 use Rattle.gr_program.specs.Program.{Program, ProgramLaws}
-use Rattle.gr_program.specs.Rounds.{last_round}
 use Rattle.gr_program.proofs.LastRound.{last_round-least}
 use Rattle.gr_batch.specs.declared.batch.Batch.{Batch}
 use Rattle.gr_sched.specs.declared.event.Event.{Event}
@@ -19,7 +18,7 @@ use Rattle.gr_cluster.specs.Left.{left}
 use Rattle.gr_agree.specs.Truth.{Truth, edge_list}
 use Rattle.gr_lists.proofs.Tests.{by_test}
 use Rattle.gr_law_runs.specs.Undisturbed.{is_plain, is_undisturbed, Undisturbed}
-use Rattle.gr_law_left.specs.ToGo.{most_left, to_go, GoesOn, GoesToTheEnd}
+use Rattle.gr_law_left.specs.ToGo.{most_left, to_go, GoesToTheEnd}
 use Rattle.gr_law_left.proofs.Canonical.{by-canonical, canonical-goes_on, canonical-ends}
 use Rattle.gr_law_left.proofs.Places.{left-goes_on}
 use Rattle.gr_law_left.proofs.Unruled.{IsUnruled, unruled, worked_at-unruled, delivered-unruled, dropped-unruled}

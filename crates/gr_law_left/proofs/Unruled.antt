@@ -1,5 +1,5 @@
 -- Works, deliveries, drops and crashes leave the coordinator's mode, epoch and counts as they are.
-use Rattle.std.proofs.Common.{◌≡◌, ℕ, true, false, ◌||◌, refl, Option, Some, None, nat_lt}
+use Rattle.std.proofs.Common.{◌≡◌, ℕ, ◌||◌, refl, Option, Some, None, nat_lt}
 use Rattle.std.specs.Prelude.{is_none}
 use Rattle.gr_program.specs.Program.{Program}
 use Rattle.gr_batch.specs.declared.batch.Batch.{Batch}

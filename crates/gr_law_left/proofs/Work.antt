@@ -1,6 +1,5 @@
 -- A work of a place lowers what is left, or does nothing.
-use Rattle.std.proofs.Common.{◌≡◌, ℕ, ◌+◌, ◌<◌, ◌≤◌, List, [], ◌∷◌, ◌++◌, Bool, true, false, cond, ◌==◌, refl, sym, ap, ◌∙◌, subst, arith, Option, Some, None, length, eq-eqb, le_refl, ⊎_elim}
-use Rattle.std.specs.Prelude.{IsTrue}
+use Rattle.std.proofs.Common.{◌≡◌, ℕ, ◌+◌, ◌<◌, ◌≤◌, [], ◌∷◌, true, false, cond, ◌==◌, refl, ap, arith, Some, eq-eqb, ⊎_elim}
 use Rattle.std.proofs.lemmas.List.{length-append}
 use Rattle.std.proofs.lemmas.Bool.{both_ways}
 use Rattle.gr_base.specs.Rising.{has}
@@ -14,10 +13,9 @@ use Rattle.gr_view.specs.Modes.{is_open, is_over, is_failed, is_rebuild}
 use Rattle.gr_rules.specs.Exchange.{unsent}
 use Rattle.gr_rules.specs.Todo.{Todo, is_act}
 use Rattle.gr_cluster.specs.Tables.{Host, Cluster, host, log, view_of, wanted_in}
-use Rattle.gr_cluster.specs.Stages.{stages_of, has_stage}
-use Rattle.gr_cluster.specs.Todo.{others, todo, can_work}
+use Rattle.gr_cluster.specs.Todo.{others, todo}
 use Rattle.gr_cluster.specs.Place.{staged_rows, staged_arcs, batch_to}
-use Rattle.gr_cluster.specs.Work.{worked, worked_at, installed_host, adopted_host, computed_host, sent_host}
+use Rattle.gr_cluster.specs.Work.{worked, installed_host, adopted_host, computed_host, sent_host}
 use Rattle.gr_agree.specs.Truth.{Truth}
 use Rattle.gr_agree.specs.Hosts.{HostOpen, AtEpoch, progress}
 use Rattle.gr_agree.specs.Agree.{Agree}
@@ -25,7 +23,7 @@ use Rattle.gr_lists.proofs.Tests.{by_test}
 use Rattle.gr_law_network.proofs.Kept.{up-party}
 use Rattle.gr_law_left.proofs.AtPlace.{install-lowers, adopt-lowers, compute-lowers, send-lowers, append-lowers, report-lowers}
 use Rattle.gr_law_left.proofs.Cases.{IsCurrent, by-todo}
-use Rattle.gr_law_left.proofs.Places.{unfinished, left_of_parties, parties-lower}
+use Rattle.gr_law_left.proofs.Places.{unfinished, parties-lower}
 
 -- a mode that is not over and in which no places failed is open
 pub goes-on-open : (m : Mode) → is_over m ≡ false → is_failed m ≡ false → is_open m ≡ true
