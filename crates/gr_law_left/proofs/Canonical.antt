@@ -50,12 +50,6 @@ module _ {V A : Type 0} (c : Cluster V A) where
       (λ o. absurd (let bad : None ≡ Some e = rw o at is in cc))
       (λ o. o)
 
-  pub canonical-ends : next_canonical c ≡ None → is_over c.coordinator.mode ≡ true
-  unfolding next_canonical
-  canonical-ends is = by_test (is_over c.coordinator.mode)
-      (λ o. o)
-      (λ o. absurd (let bad : Some (canonical_among c c.flight) ≡ None = rw o at is in cc))
-
   pub by-canonical : (R : Event → Type 0) (e : Event) → next_canonical c ≡ Some e → CanonicalCases R → R e
   unfolding next_canonical
   by-canonical R e is C =

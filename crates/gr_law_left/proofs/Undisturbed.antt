@@ -18,8 +18,9 @@ use Rattle.gr_cluster.specs.Left.{left}
 use Rattle.gr_agree.specs.Truth.{Truth, edge_list}
 use Rattle.gr_lists.proofs.Tests.{by_test}
 use Rattle.gr_law_runs.specs.Undisturbed.{is_plain, is_undisturbed, Undisturbed}
+use Rattle.gr_law_runs.proofs.Finish.{none-over}
 use Rattle.gr_law_left.specs.ToGo.{most_left, to_go, GoesToTheEnd}
-use Rattle.gr_law_left.proofs.Canonical.{by-canonical, canonical-goes_on, canonical-ends}
+use Rattle.gr_law_left.proofs.Canonical.{by-canonical, canonical-goes_on}
 use Rattle.gr_law_left.proofs.Places.{left-goes_on}
 use Rattle.gr_law_left.proofs.Unruled.{IsUnruled, unruled, worked_at-unruled, delivered-unruled, dropped-unruled}
 use Rattle.gr_law_left.proofs.Losing.{removed-shorter}
@@ -130,7 +131,7 @@ module _ {V A : Type 0} (P : Program V A) (L : ProgramLaws P) (t : Truth V) (c :
 
   -- where none comes the run is done
   pub stops-done : next_canonical c ≡ None → c.coordinator.mode ≡ mode.Done
-  stops-done is = mode-done c.coordinator.mode U.mode (canonical-ends c is)
+  stops-done is = mode-done c.coordinator.mode U.mode (none-over c is)
 
   pub goes-to-the-end : GoesToTheEnd P c
   goes-to-the-end = record {
