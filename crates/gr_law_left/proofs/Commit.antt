@@ -29,7 +29,7 @@ at-least ps S zero lt = omega arith
 at-least ps S (suc i) lt =
     let ih = at-least ps S i (omega (arith, lt)) in let up = S.rise i (suc i) 0 (omega arith) lt in omega (arith, ih, up)
 
-pub places-few : (ps : List ℕ) → IsPlaces ps → length ps ≤ 64
+places-few : (ps : List ℕ) → IsPlaces ps → length ps ≤ 64
 places-few ps S = ⊎_elim
     (λ lt. absurd (let low = at-least ps S 64 lt in let high = All-get_or (λ p. p < 64) ps 64 0 lt S.below in omega (arith, low, high)))
     (λ le. le) (cases_lt 64 (length ps))

@@ -6,8 +6,7 @@ ghost use Rattle.gr_law_left.specs.Law.{NeverLeavesMore};
 ghost use Rattle.gr_law_left.specs.ToGo.{UndisturbedGoesOn, StretchIsShort};
 
 /// Until the run is over something is left, and each canonical event inside an epoch leaves less, in every mode. So a
-/// cluster to which only canonical events come never stands still: where no batch is in flight and no place can work,
-/// every party has reported, and the barrier decides.
+/// cluster to which only canonical events come never stands still.
 pub fn each_event_leaves_less<V, A>()
     ensures { LeavesLess V A }
 {}
@@ -17,21 +16,19 @@ pub fn no_event_leaves_more<V, A>()
     ensures { NeverLeavesMore V A }
 {}
 
-/// What is left grows with the batches in flight and with the square of the number of places that take part, and so
-/// does the number of canonical events of an epoch.
+/// What is left is bounded by the batches in flight and the square of the number of places that take part.
 pub fn what_is_left_is_bounded<V, A>()
     ensures { LeftIsBounded V A }
 {}
 
 /// A step of any cluster, whether it agrees with a committed state or not, adds at most one to the epoch, the commits,
-/// the rounds, the serial numbers and the batches in flight.
+/// the rounds, the serial and the batches in flight, and lowers none of these but the last.
 pub fn steps_raise_by_one<V, A>()
     ensures { StepsByOne V A }
 {}
 
-/// Where nothing disturbs a cluster, the canonical event is a work of a place, a delivery or a barrier, and each brings
-/// the end nearer by the measure `to_go`; other works, deliveries, drops and barriers bring it no further away. The
-/// canonical events stop where the run is done.
+/// Where nothing disturbs a cluster, no canonical event is a crash, a recovery, a repair or a discard, and each lowers
+/// the measure `to_go`, which no work, delivery, drop or barrier raises. The canonical events stop where the run is done.
 pub fn undisturbed_goes_on<V, A>()
     ensures { UndisturbedGoesOn V A }
 {}
