@@ -1,0 +1,17 @@
+pub mod AtPlace
+pub mod Bounded
+pub mod Canonical
+pub mod Cases
+pub mod Commit
+pub mod Counts
+pub mod Deadlock
+pub mod Decided
+pub mod Less
+pub mod Losing
+pub mod Places
+pub mod Stages
+pub mod Stretch
+pub mod Sums
+pub mod Undisturbed
+pub mod Unruled
+pub mod Work
