@@ -40,11 +40,7 @@ impl<P: VertexProgram> Cluster<P> {
             Event::Work(p) => self.work(p),
             Event::Deliver(i) => self.deliver(i),
             Event::Discarded(i) => Ok(self.drop_batch(i)),
-            Event::Barrier => {
-                // A look at the limit tells that it has 32 bits, and the committed rounds are below it.
-                let _limit = self.coordinator().limit;
-                Ok(self.barrier())
-            }
+            Event::Barrier => Ok(self.barrier()),
             _ => Ok(Outcome::Idle),
         }
     }

@@ -1,4 +1,4 @@
-use Rattle.std.proofs.Common.{◌≡◌, ◌∙◌, ◌<◌, ◌-◌, ◌^◌, sym, ap, subst, false, [], refl}
+use Rattle.std.proofs.Common.{◌≡◌, ◌∙◌, ◌<◌, ◌-◌, ◌^◌, sym, ap, subst, false, [], refl, arith}
 use Rattle.gr_sched.specs.declared.event.Event.TheVariants as event
 use Rattle.gr_view.specs.Modes.{is_over, is_rebuild}
 use Rattle.gr_view.specs.Decisions.{looked_at, at_barrier}
@@ -6,7 +6,7 @@ use Rattle.gr_cluster.specs.Tables.{Cluster}
 use Rattle.gr_cluster.specs.Step.{down_among}
 use Rattle.gr_law_runs.specs.Undisturbed.{RunsUndisturbed}
 use Rattle.gr_core.proofs.Barrier.{barrier-step}
-use Rattle.gr_core.proofs.Undisturbed.{runs-on}
+use Rattle.gr_core.proofs.Undisturbed.{runs-on, rounds-below}
 use Rattle.gr_core.proofs.cluster.Cluster.barrier.Goals as goal
 
 pub barrier-requires-clause-room : goal.barrier-requires-clause-room
@@ -20,7 +20,7 @@ barrier-requires-clause-room g c =
     record {
       epoch = subst (λ x. x.cluster.coordinator.epoch < 2 ^ 64 - 1) (sym c.self.view_is) c.requires.epoch;
       commits = subst (λ x. x.cluster.coordinator.commits < 2 ^ 64 - 1) (sym c.self.view_is) c.requires.commits;
-      rounds = subst (λ x. x.cluster.coordinator.round < 2 ^ 32 - 1) (sym c.self.view_is) c.requires.rounds;
+      rounds = let below = rounds-below P (g.met.P.VertexProgram.laws s.program) k c.self.invariant over in omega (arith, below);
       spares = (c.self.invariant.1).agrees.committed.places.spares;
     }
 

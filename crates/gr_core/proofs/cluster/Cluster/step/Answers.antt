@@ -1,8 +1,8 @@
-use Rattle.std.proofs.Common.{◌≡◌, ◌∙◌, ◌<◌, ◌^◌, sym, ap, true, false, arith}
+use Rattle.std.proofs.Common.{◌≡◌, ◌∙◌, sym, ap, true, false}
 use Rattle.gr_view.specs.Modes.{is_over}
 use Rattle.gr_core.specs.Steps.{is_delivery}
 use Rattle.gr_core.proofs.Network.{step-over}
-use Rattle.gr_core.proofs.Undisturbed.{none-down, rounds-below}
+use Rattle.gr_core.proofs.Undisturbed.{none-down}
 use Rattle.gr_core.proofs.cluster.Cluster.step.Goals as goal
 
 pub returns-then-is_over-clause-ok : goal.returns-then-is_over-clause-ok
@@ -15,11 +15,3 @@ returns-in-Deliver-clause-told g c = λ n e. absurd (let bad : true ≡ false = 
 pub barrier-requires-clause-up : goal.barrier-requires-clause-up
 barrier-requires-clause-up g c =
     none-down (g.P.VertexProgram.program_of c.args.self.now.program) (g.met.P.VertexProgram.laws c.args.self.now.program) c.args.self.now.cluster c.mode.ensures.undisturbed
-
-pub barrier-requires-clause-rounds : goal.barrier-requires-clause-rounds
-barrier-requires-clause-rounds g c =
-    let over : is_over c.args.self.now.cluster.coordinator.mode ≡ false = ap is_over (sym c.mode.ensures.mode) ∙ (sym c.is_over.ensures ∙ c.if-is_over.false) in
-    let below = rounds-below (g.P.VertexProgram.program_of c.args.self.now.program) (g.met.P.VertexProgram.laws c.args.self.now.program) c.args.self.now.cluster c.mode.ensures.undisturbed over in
-    let same = ap (λ co. co.limit) c.coordinator-limit.ensures in
-    let told = c.coordinator-limit in
-    ?
