@@ -35,7 +35,7 @@ places-few ps S = ⊎_elim
     (λ le. le) (cases_lt 64 (length ps))
 
 module _ {V A : Type 0} (P : Program V A) (t : Truth V) (c : Cluster V A) (AG : Agree P t c) (running : c.coordinator.mode ≡ mode.Running) where
-  parties-few : length (parties c.coordinator) ≤ 64
+  pub parties-few : length (parties c.coordinator) ≤ 64
   parties-few =
       let none = AG.committed.places.none_reborn (λ r. let bad : true ≡ false = sym (ap is_rebuild r) ∙ ap is_rebuild running in cc) in
       let same : parties c.coordinator ≡ c.coordinator.live = ap (union c.coordinator.live) none ∙ union-nil c.coordinator.live in

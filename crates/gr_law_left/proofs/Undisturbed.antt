@@ -45,7 +45,7 @@ mode-done mode.Repairing u o = absurd (let bad : false ≡ true = u in cc)
 mode-done mode.Lost u o = absurd (let bad : false ≡ true = u in cc)
 
 module _ {V A : Type 0} (P : Program V A) (L : ProgramLaws P) (t : Truth V) (c : Cluster V A) (U : Undisturbed P t c) where
-  running : is_over c.coordinator.mode ≡ false → c.coordinator.mode ≡ mode.Running
+  pub running : is_over c.coordinator.mode ≡ false → c.coordinator.mode ≡ mode.Running
   running o = mode-running c.coordinator.mode U.mode o
 
   pub not-failed : is_failed c.coordinator.mode ≡ false

@@ -1,1 +1,9 @@
-
+pub mod Adding
+pub mod Following
+pub mod Kept
+pub mod Onward
+pub mod Outcomes
+pub mod Positions
+pub mod Reached
+pub mod Rooms
+pub mod Workers

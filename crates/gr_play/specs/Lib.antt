@@ -1,2 +1,5 @@
 pub mod Playing
+pub mod Progress
+pub mod Room
+pub mod Stops
 pub mod Tracing

@@ -1,8 +1,14 @@
 //! Schedules that are played on a cluster, with their traces.
 #![tactic(auto)]
 
+mod append;
+mod canonical;
 mod ending;
-mod play;
+mod event;
+mod lines;
+mod player;
+mod stop;
 
+pub use canonical::next_canonical;
 pub use ending::Ending;
-pub use play::play;
+pub use player::play;
