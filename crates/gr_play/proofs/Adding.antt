@@ -1,11 +1,12 @@
 -- What is added to a trace over several calls.
-use Rattle.std.proofs.Common.{◌≡◌, ◌≤◌, ℕ, ◌+◌, ◌-◌, List, [], ◌++◌, length, take, drop, Bool, true, false, refl, sym, ap, ◌∙◌, subst, arith, append_assoc, length-drop, Option, Some, None}
-use Rattle.std.specs.Prelude.{IsTrue, IfSome, IsSomeAnd, Result, Ok, Err, IfOk, IsErrOf}
+use Rattle.std.proofs.Common.{◌≡◌, ◌≤◌, ℕ, ◌+◌, ◌-◌, List, [], ◌++◌, length, take, drop, Bool, true, false, refl, sym, ap, ◌∙◌, subst, arith, append_assoc, length-drop, Option, Some, None, Bor}
+use Rattle.std.specs.Option.{option_copied}
+use Rattle.std.specs.Prelude.{is_some, IsSome, IsTrue, IfSome, IsSomeAnd, Result, Ok, Err, IfOk, IsErrOf}
 use Rattle.std.proofs.lemmas.List.{append-nil, drop-take, drop-drop, take-take, take_all, take-append-drop}
 use Rattle.gr_outside.specs.declared.faults.FileFault.{FileFault}
 use Rattle.gr_outside.specs.Files.{FilesSeen, FilesTold, HasWritten, Grows, Extends}
 use Rattle.gr_outside.proofs.Written.{told-grows, told-refused}
-use Rattle.gr_play.specs.Tracing.{Traces, CountsNoLoad, GainsTrace, Adds}
+use Rattle.gr_play.specs.Tracing.{Traces, TracesPart, CountsNoLoad, GainsTrace, Adds}
 
 pub GainsTrace-nothing : (a : FilesSeen) → GainsTrace a a []
 GainsTrace-nothing a base name had held = subst (Traces base a name) (sym (append-nil had)) held
@@ -68,3 +69,12 @@ Adds-more a b c bytes rest n m le is within first then =
       take_all (length rest - m) (drop m rest) (omega (arith, length-drop m rest)) ∙ ap (λ (r : List ℕ). drop m r) is ∙ drop-drop m n bytes,
       subst (λ (l : List ℕ). Adds true a c l) (take-more n m bytes) all,
     )
+
+-- a first part of a text was added to a trace that was begun anew
+pub part-traced : (o : Option (Bor (List ℕ))) (a m b : FilesSeen) (n : ℕ) (text : List ℕ) → IfSome (option_copied o) (λ name. Traces a m name []) → (IsSome o → m.is_begun ≡ true)
+    → Adds (is_some o) m b (take n text) → IfSome (option_copied o) (λ name. TracesPart a b name text)
+part-traced None a m b n text begun is added = tt
+part-traced (Some x) a m b n text begun is added = record {
+  begun = λ _. (n, added.gained refl a x.now [] begun);
+  not_begun = λ off. absurd (let bad : false ≡ true = sym off ∙ (added.begun ∙ is refl) in cc);
+}

@@ -1,5 +1,5 @@
 -- What the events of a line play, and add to the trace.
-use Rattle.std.proofs.Common.{◌≡◌, ℕ, ◌+◌, List, [], ◌∷◌, ◌++◌, take, length, Bool, true, false, ◌&&◌, refl, sym, ap, ◌∙◌, subst, arith, Option, Some, None, add_assoc, add-zero, ◌⊎◌, inl, inr}
+use Rattle.std.proofs.Common.{◌≡◌, ℕ, ◌+◌, List, [], ◌∷◌, ◌++◌, take, length, Bool, true, false, ◌&&◌, refl, sym, ap, ◌∙◌, subst, arith, Option, Some, None, add_assoc, add-zero, zero-add, ◌⊎◌, inl, inr}
 use Rattle.std.proofs.Math.Seq.{take-append-add}
 use Rattle.gr_lists.proofs.Tests.{by_test}
 use Rattle.gr_program.specs.Program.{Program}
@@ -11,7 +11,7 @@ use Rattle.gr_sched.specs.declared.event.Line.TheVariants as line
 use Rattle.gr_cluster.specs.Tables.{Cluster}
 use Rattle.gr_cluster.specs.Step.{step}
 use Rattle.gr_cluster.specs.Canonical.{next_canonical}
-use Rattle.gr_cluster.specs.Runs.{Position, is_commit, event_of, lines_after, next_event, next_position, position_by, position_after}
+use Rattle.gr_cluster.specs.Runs.{Position, IsWhole, is_commit, event_of, lines_after, next_event, next_position, position_by, position_after}
 use Rattle.gr_play.specs.Playing.{start, Plays}
 use Rattle.gr_play.specs.Progress.{canonical_line, SameFrom, Leads, PlaysTo, PlaysPart, PlaysEvent, FailsBefore, FailsAfter}
 use Rattle.gr_play.specs.Tracing.{text_of_steps, Adds}
@@ -50,6 +50,13 @@ module _ {V A : Type 0} (P : Program V A) (T : Telling V A) (traced : Bool) wher
     leads = Leads-nothing P s t same;
     added = subst (Adds traced a b) (sym (text-nothing P T s)) (Adds-nothing traced a b untouched);
   }
+
+  -- where no line is left the run is whole
+  pub PlaysTo-whole : (from to : ℕ) (a b : FilesSeen) (s : Position V A) (c : Cluster V A) → from ≡ 0 → PlaysTo P T traced from to a b s (start c []) → IsWhole (position_after P to s)
+  unfolding next_event
+  PlaysTo-whole from to a b s c none x =
+      let counted : x.taken ≡ to = sym (x.counted ∙ ap (λ n. n + x.taken) none ∙ zero-add x.taken) in
+      subst (λ n. IsWhole (position_after P n s)) counted ((x.leads).same).event
 
   module _ (from to : ℕ) (a b : FilesSeen) (s : Position V A) (e : Event) (d : Cluster V A) (is : next_event s ≡ Some e) where
     -- the event that comes next was played

@@ -1,5 +1,5 @@
 -- Room in the counts of a cluster, and what a step leaves of it.
-use Rattle.std.proofs.Common.{◌≡◌, ℕ, ◌+◌, ◌-◌, ◌*◌, ◌^◌, ◌<◌, ◌≤◌, length, sym, ap, ◌∙◌, arith, true, false, Some}
+use Rattle.std.proofs.Common.{◌≡◌, ℕ, ◌+◌, ◌-◌, ◌*◌, ◌^◌, ◌<◌, ◌≤◌, length, refl, sym, ap, ◌∙◌, arith, true, false, Some, mul_assoc}
 use Rattle.std.specs.Prelude.{IsTrue, max}
 use Rattle.std.proofs.Math.Nat.{mul-le-mul_left}
 use Rattle.gr_program.specs.Program.{Program, ProgramLaws}
@@ -16,7 +16,8 @@ use Rattle.gr_law_left.specs.ToGo.{most_left, to_go}
 use Rattle.gr_law_left.proofs.Bounded.{left-bounded}
 use Rattle.gr_law_left.proofs.Commit.{parties-few}
 use Rattle.gr_law_left.proofs.Counts.{step-counts}
-use Rattle.gr_law_left.proofs.Undisturbed.{running, to_go-kept, to_go-falls, canonical-is}
+use Rattle.gr_law_left.proofs.Places.{left-over}
+use Rattle.gr_law_left.proofs.Undisturbed.{not-failed, running, to_go-kept, to_go-falls, canonical-is}
 use Rattle.gr_play.specs.Room.{HasRoom, HasRoomFor}
 
 module _ {V A : Type 0} (c : Cluster V A) (taken : ℕ) where
@@ -69,4 +70,35 @@ module _ {V A : Type 0} (P : Program V A) (L : ProgramLaws P) (c : Cluster V A) 
         epoch = let r = R.epoch in let s = (k.epoch).1 in omega (arith, r, g, s);
         commits = let r = R.commits in let s = (k.commits).1 in omega (arith, r, g, s);
         flight = let r = R.flight in let few = R.few in omega (arith, r, few, f);
+      }
+
+-- what is left of an epoch
+module _ {V A : Type 0} (P : Program V A) (L : ProgramLaws P) (c : Cluster V A) (U : RunsUndisturbed P c) where
+  left-few : length c.flight ≤ 200000 → left c ≤ 232769
+  left-few f = by_test (is_over c.coordinator.mode)
+      (λ o. let none = left-over c o in omega (arith, none))
+      (λ o.
+      let n = length (looked_at c.coordinator) in
+      let calm = not-failed P L U.0 c U.1 in
+      let same : looked_at c.coordinator ≡ parties c.coordinator = rw calm refl in
+      let few = parties-few P U.0 c (U.1).agrees (running P L U.0 c U.1 o) in
+      let few' : n ≤ 64 = omega (arith, few, ap length same) in
+      let bound = left-bounded P U.0 c (U.1).agrees in
+      let square : n * n ≤ n * 64 = mul-le-mul_left n few' in
+      let eight : 8 * n * n ≡ 8 * (n * n) = mul_assoc 8 n n in
+      omega (arith, bound, square, eight, few', f))
+
+  -- a schedule begins with room for all its lines
+  pub HasRoomFor-start : (taken lines : ℕ) → taken ≡ 0 → lines ≤ 200000 → c.coordinator.limit < 2 ^ 32 → length c.flight ≤ 200000
+      → c.serial < 2 ^ 62 → c.coordinator.epoch < 2 ^ 62 → c.coordinator.commits < 2 ^ 62 → HasRoomFor c taken lines
+  HasRoomFor-start taken lines none few limit flight serial epoch commits =
+      let l = left-few flight in
+      let go : to_go c ≤ 232769 + 32769 * 2 ^ 32 = omega (arith, l, limit) in
+      record {
+        few = few;
+        steps = omega (arith, none, few, go);
+        serial = omega (arith, few, go, serial);
+        epoch = omega (arith, few, go, epoch);
+        commits = omega (arith, few, go, commits);
+        flight = omega (arith, flight, few);
       }

@@ -7,7 +7,7 @@ ghost use Rattle.gr_batch.specs.Telling.{telling};
 ghost use Rattle.gr_sched.specs.Reading.{places_of, are_below};
 ghost use Rattle.gr_cluster.specs.Runs.{IsWhole, position_after};
 ghost use Rattle.gr_cluster.specs.Ending.{ending_of};
-ghost use Rattle.gr_law_runs.specs.Undisturbed.{is_plain_line};
+ghost use Rattle.gr_law_runs.specs.Undisturbed.{is_plain_line, RunsUndisturbed};
 ghost use Rattle.gr_law_left.specs.ToGo.{to_go};
 ghost use Rattle.gr_play.specs.Playing.{start, Plays, told_by};
 ghost use Rattle.gr_play.specs.Tracing.{text_of_steps, Traces, TracesPart, CountsNoLoad};
@@ -58,6 +58,8 @@ pub fn play<P: VertexProgram, F: Files>(
     ensures untraced { IsNone trace.entry → F.seen files.new ≡ F.seen files.old }
     ensures loads { CountsNoLoad (F.seen files.old) (F.seen files.new) }
 {
+    // A look at the limit tells that it has 32 bits, and that nothing disturbs the cluster.
+    let _limit = limit_of(cluster);
     if let Err(stop) = begin_trace(alloc, files, trace) {
         return stopped(stop);
     }
@@ -65,6 +67,15 @@ pub fn play<P: VertexProgram, F: Files>(
         Ok(()) => ending(cluster),
         Err(stop) => stopped(stop),
     }
+}
+
+// The limit of rounds.
+fn limit_of<P: VertexProgram>(cluster: &Cluster<P>) -> u32
+    ensures limit { result ≡ cluster.now.cluster.coordinator.limit }
+    ensures undisturbed { RunsUndisturbed (P.program_of cluster.now.program) cluster.now.cluster }
+{
+    let _mode = cluster.mode();
+    cluster.coordinator().limit
 }
 
 // Begins the file of the trace, where there is one.
