@@ -1,12 +1,12 @@
 -- What is added to a trace over several calls.
 use Rattle.std.proofs.Common.{◌≡◌, ◌≤◌, ℕ, ◌+◌, ◌-◌, List, [], ◌++◌, length, take, drop, Bool, true, false, refl, sym, ap, ◌∙◌, subst, arith, append_assoc, length-drop, Option, Some, None, Bor}
 use Rattle.std.specs.Option.{option_copied}
-use Rattle.std.specs.Prelude.{is_some, IsSome, IsTrue, IfSome, IsSomeAnd, Result, Ok, Err, IfOk, IsErrOf}
+use Rattle.std.specs.Prelude.{is_some, IsSome, IfSome, Ok, Err}
 use Rattle.std.proofs.lemmas.List.{append-nil, drop-take, drop-drop, take-take, take_all, take-append-drop}
 use Rattle.gr_outside.specs.declared.faults.FileFault.{FileFault}
-use Rattle.gr_outside.specs.Files.{FilesSeen, FilesTold, HasWritten, Grows, Extends}
+use Rattle.gr_outside.specs.Files.{FilesSeen, HasWritten, Extends}
 use Rattle.gr_outside.proofs.Written.{told-grows, told-refused}
-use Rattle.gr_play.specs.Tracing.{Traces, TracesPart, CountsNoLoad, GainsTrace, Adds}
+use Rattle.gr_play.specs.Tracing.{Traces, TracesPart, GainsTrace, Adds}
 
 pub GainsTrace-nothing : (a : FilesSeen) → GainsTrace a a []
 GainsTrace-nothing a base name had held = subst (Traces base a name) (sym (append-nil had)) held

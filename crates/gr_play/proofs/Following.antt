@@ -1,5 +1,5 @@
 -- What comes next where nobody chooses, in a cluster that runs undisturbed.
-use Rattle.std.proofs.Common.{◌≡◌, ◌<◌, ℕ, List, [], ◌∷◌, length, true, false, refl, sym, ap, ◌∙◌, arith, Option, Some, None}
+use Rattle.std.proofs.Common.{◌≡◌, ◌<◌, ℕ, List, [], ◌∷◌, length, true, false, refl, ap, ◌∙◌, arith, Option, Some, None}
 use Rattle.std.specs.List.{find}
 use Rattle.gr_base.specs.Places.{below}
 use Rattle.gr_program.specs.Program.{Program, ProgramLaws}

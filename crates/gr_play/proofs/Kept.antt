@@ -1,5 +1,5 @@
 -- What a step keeps, and what it leaves of the way to the end.
-use Rattle.std.proofs.Common.{◌≡◌, ◌≤◌, ◌<◌, ℕ, ◌+◌, List, Bool, true, false, refl, sym, ap, ◌∙◌, subst, arith, Option, Some, None, nat_lt, slice_get, ◌⊎◌, inl, inr}
+use Rattle.std.proofs.Common.{◌≡◌, ◌≤◌, ℕ, ◌+◌, List, Bool, true, false, refl, sym, subst, arith, Option, Some, None, nat_lt, slice_get, ◌⊎◌, inl, inr}
 use Rattle.std.specs.Prelude.{IsTrue, is_none}
 use Rattle.gr_program.specs.Program.{Program, ProgramLaws}
 use Rattle.gr_batch.specs.declared.batch.Batch.{Batch}
@@ -23,10 +23,10 @@ use Rattle.gr_lists.proofs.Tests.{by_test}
 use Rattle.gr_law_runs.specs.Undisturbed.{is_plain, RunsUndisturbed}
 use Rattle.gr_law_runs.proofs.Plain.{plain-undisturbed}
 use Rattle.gr_law_left.specs.ToGo.{to_go}
-use Rattle.gr_law_left.proofs.Undisturbed.{to_go-kept, to_go-falls, canonical-is}
+use Rattle.gr_law_left.proofs.Undisturbed.{to_go-kept, to_go-falls}
 use Rattle.gr_play.specs.Progress.{PlaysEvent, FailsBefore, FailsAfter}
 use Rattle.gr_play.specs.Room.{HasRoomFor}
-use Rattle.gr_play.proofs.Rooms.{HasRoomFor-plain, HasRoomFor-canonical, HasRoomFor-fewer}
+use Rattle.gr_play.proofs.Rooms.{HasRoomFor-canonical}
 
 module _ {V A : Type 0} (P : Program V A) (c : Cluster V A) where
   worked-places : (p : ℕ) (h : Host V A) (x : Todo) → (worked P c p h x).0.places ≡ c.places

@@ -9,8 +9,6 @@ use Rattle.gr_sched.specs.declared.event.Event.{Event}
 use Rattle.gr_sched.specs.declared.event.Line.{Line}
 use Rattle.gr_sched.specs.declared.event.Line.TheVariants as line
 use Rattle.gr_cluster.specs.Tables.{Cluster}
-use Rattle.gr_cluster.specs.Step.{step}
-use Rattle.gr_cluster.specs.Runs.{is_commit}
 use Rattle.gr_cluster.specs.Canonical.{next_canonical}
 use Rattle.gr_law_runs.specs.Undisturbed.{is_plain, RunsUndisturbed}
 use Rattle.gr_law_left.specs.ToGo.{to_go}

@@ -1,5 +1,5 @@
 -- The outcome of a step goes with its event.
-use Rattle.std.proofs.Common.{◌≡◌, ℕ, List, Bool, true, false, refl, sym, ap, ◌∙◌, Option, Some, None, nat_lt, slice_get}
+use Rattle.std.proofs.Common.{◌≡◌, ℕ, List, true, false, refl, Option, Some, None, nat_lt, slice_get}
 use Rattle.std.specs.Prelude.{is_none}
 use Rattle.gr_program.specs.Program.{Program}
 use Rattle.gr_batch.specs.declared.batch.Batch.{Batch}

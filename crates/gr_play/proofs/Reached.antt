@@ -1,5 +1,5 @@
 -- What the events of a line play, and add to the trace.
-use Rattle.std.proofs.Common.{◌≡◌, ℕ, ◌+◌, List, [], ◌∷◌, ◌++◌, take, length, Bool, true, false, ◌&&◌, refl, sym, ap, ◌∙◌, subst, arith, Option, Some, None, add_assoc, add-zero, zero-add, ◌⊎◌, inl, inr}
+use Rattle.std.proofs.Common.{◌≡◌, ℕ, ◌+◌, List, [], ◌∷◌, take, length, Bool, true, false, ◌&&◌, refl, sym, ap, ◌∙◌, subst, Some, None, add_assoc, add-zero, zero-add, ◌⊎◌, inl, inr}
 use Rattle.std.proofs.Math.Seq.{take-append-add}
 use Rattle.gr_lists.proofs.Tests.{by_test}
 use Rattle.gr_program.specs.Program.{Program}
@@ -11,12 +11,12 @@ use Rattle.gr_sched.specs.declared.event.Line.TheVariants as line
 use Rattle.gr_cluster.specs.Tables.{Cluster}
 use Rattle.gr_cluster.specs.Step.{step}
 use Rattle.gr_cluster.specs.Canonical.{next_canonical}
-use Rattle.gr_cluster.specs.Runs.{Position, IsWhole, is_commit, event_of, lines_after, next_event, next_position, position_by, position_after}
+use Rattle.gr_cluster.specs.Runs.{Position, IsWhole, is_commit, event_of, lines_after, next_event, next_position, position_after}
 use Rattle.gr_play.specs.Playing.{start, Plays}
-use Rattle.gr_play.specs.Progress.{canonical_line, SameFrom, Leads, PlaysTo, PlaysPart, PlaysEvent, FailsBefore, FailsAfter}
+use Rattle.gr_play.specs.Progress.{canonical_line, SameFrom, PlaysTo, PlaysPart, PlaysEvent, FailsBefore, FailsAfter}
 use Rattle.gr_play.specs.Tracing.{text_of_steps, Adds}
 use Rattle.gr_play.proofs.Adding.{Adds-nothing, Adds-trans}
-use Rattle.gr_play.proofs.Positions.{SameFrom-refl, Leads-nothing, Leads-one, Leads-trans, Leads-plays, Leads-Plays, Plays-nothing, next-some, text-nothing, text-one, text-add}
+use Rattle.gr_play.proofs.Positions.{Leads-nothing, Leads-one, Leads-trans, Leads-plays, Leads-Plays, Plays-nothing, next-some, text-nothing, text-one, text-add}
 
 module _ {V A : Type 0} (P : Program V A) (T : Telling V A) (traced : Bool) where
   -- a call that played on from where another had come

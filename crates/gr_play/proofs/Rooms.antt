@@ -1,6 +1,6 @@
 -- Room in the counts of a cluster, and what a step leaves of it.
-use Rattle.std.proofs.Common.{◌≡◌, ℕ, ◌+◌, ◌-◌, ◌*◌, ◌^◌, ◌<◌, ◌≤◌, length, refl, sym, ap, ◌∙◌, arith, true, false, Some, mul_assoc}
-use Rattle.std.specs.Prelude.{IsTrue, max}
+use Rattle.std.proofs.Common.{◌≡◌, ℕ, ◌+◌, ◌*◌, ◌^◌, ◌<◌, ◌≤◌, length, refl, ap, arith, Some, mul_assoc}
+use Rattle.std.specs.Prelude.{IsTrue}
 use Rattle.std.proofs.Math.Nat.{mul-le-mul_left}
 use Rattle.gr_program.specs.Program.{Program, ProgramLaws}
 use Rattle.gr_sched.specs.declared.event.Event.{Event}
@@ -12,7 +12,7 @@ use Rattle.gr_cluster.specs.Canonical.{next_canonical}
 use Rattle.gr_cluster.specs.Left.{left}
 use Rattle.gr_lists.proofs.Tests.{by_test}
 use Rattle.gr_law_runs.specs.Undisturbed.{is_plain, RunsUndisturbed}
-use Rattle.gr_law_left.specs.ToGo.{most_left, to_go}
+use Rattle.gr_law_left.specs.ToGo.{to_go}
 use Rattle.gr_law_left.proofs.Bounded.{left-bounded}
 use Rattle.gr_law_left.proofs.Commit.{parties-few}
 use Rattle.gr_law_left.proofs.Counts.{step-counts}

@@ -1,5 +1,5 @@
 -- What a call of `play` makes of a cluster, and how it ends.
-use Rattle.std.specs.Prelude.{ℕ, ◌≡◌, ◌+◌, ◌-◌, ◌*◌, List, length, Option, Some, None}
+use Rattle.std.specs.Prelude.{ℕ, ◌≡◌, List, length, Option, Some, None}
 use Rattle.gr_program.specs.Program.{Program}
 use Rattle.gr_sched.specs.declared.event.Line.{Line}
 use Rattle.gr_cluster.specs.Tables.{Cluster}

@@ -1,5 +1,5 @@
 -- What part of a run a call has played, and what it added to the trace.
-use Rattle.std.specs.Prelude.{ℕ, ◌+◌, ◌≡◌, ◌⊎◌, Bool, List, ◌∷◌, take, Option, Some, length, if◌then◌else◌}
+use Rattle.std.specs.Prelude.{ℕ, ◌+◌, ◌≡◌, Bool, List, take, Some, length, if◌then◌else◌}
 use Rattle.gr_program.specs.Program.{Program}
 use Rattle.gr_batch.specs.Telling.{Telling}
 use Rattle.gr_outside.specs.Files.{FilesSeen}

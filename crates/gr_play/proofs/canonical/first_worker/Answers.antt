@@ -1,4 +1,4 @@
-use Rattle.std.proofs.Common.{◌≡◌, ◌∙◌, ◌<◌, sym, arith}
+use Rattle.std.proofs.Common.{◌∙◌, ◌<◌, sym, arith}
 use Rattle.gr_cluster.specs.Tables.{host}
 use Rattle.gr_cluster.specs.Todo.{can_work}
 use Rattle.gr_play.proofs.Workers.{first-below, none-below}

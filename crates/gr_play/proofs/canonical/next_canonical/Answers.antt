@@ -1,4 +1,4 @@
-use Rattle.std.proofs.Common.{◌≡◌, ◌∙◌, ap, sym, refl, true, inl, inr}
+use Rattle.std.proofs.Common.{◌∙◌, ap, sym, inl, inr}
 use Rattle.gr_view.specs.Modes.{is_over}
 use Rattle.gr_play.proofs.Following.{canonical-over}
 use Rattle.gr_play.proofs.canonical.next_canonical.Goals as goal

@@ -1,4 +1,4 @@
-use Rattle.std.proofs.Common.{◌≡◌, ◌∙◌, ◌<◌, length, sym, ap, arith}
+use Rattle.std.proofs.Common.{◌≡◌, length, arith}
 use Rattle.gr_play.proofs.Following.{canonical-deliver, canonical-worker, canonical-barrier}
 use Rattle.gr_play.proofs.canonical.next_event.Goals as goal
 

@@ -1,4 +1,4 @@
-use Rattle.std.proofs.Common.{◌≡◌, ◌∙◌, ap}
+use Rattle.std.proofs.Common.{◌∙◌, ap}
 use Rattle.gr_report.specs.Goes.{goes_with}
 use Rattle.gr_play.proofs.Outcomes.{step-goes}
 use Rattle.gr_play.proofs.event.play_event.Goals as goal

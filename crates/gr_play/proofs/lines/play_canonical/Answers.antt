@@ -1,4 +1,4 @@
-use Rattle.std.proofs.Common.{◌≡◌, ◌∙◌, ℕ, refl, sym, ap, subst, Some, Err, ◌⊎◌}
+use Rattle.std.proofs.Common.{◌≡◌, ◌∙◌, refl, sym, ap, subst, Some, Err, ◌⊎◌}
 use Rattle.gr_batch.specs.Telling.{telling}
 use Rattle.gr_cluster.specs.Canonical.{next_canonical}
 use Rattle.gr_law_left.proofs.Undisturbed.{canonical-is}

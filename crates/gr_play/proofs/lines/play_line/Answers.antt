@@ -1,4 +1,4 @@
-use Rattle.std.proofs.Common.{◌≡◌, ◌∙◌, ◌+◌, ◌≤◌, ◌∷◌, ℕ, List, true, sym, ap, subst, arith, Err}
+use Rattle.std.proofs.Common.{◌≡◌, ◌∙◌, ◌+◌, ◌∷◌, List, true, sym, ap, subst, arith, Err}
 use Rattle.gr_batch.specs.Telling.{telling}
 use Rattle.gr_sched.specs.declared.event.Line.{Line}
 use Rattle.gr_law_runs.specs.Undisturbed.{is_plain, is_plain_line}

@@ -1,9 +1,6 @@
-use Rattle.std.proofs.Common.{◌≡◌, ◌∙◌, ◌+◌, ◌-◌, ◌≤◌, ◌<◌, ◌∷◌, List, length, drop, refl, sym, ap, subst, arith, Err, drop-cons, add-one, suc}
+use Rattle.std.proofs.Common.{◌≡◌, ◌∙◌, ◌+◌, ◌-◌, ◌∷◌, length, drop, refl, sym, ap, subst, arith, drop-cons, add-one, suc}
 use Rattle.gr_batch.specs.Telling.{telling}
 use Rattle.gr_law_runs.specs.Undisturbed.{RunsUndisturbed}
-use Rattle.gr_sched.specs.declared.event.Line.{Line}
-use Rattle.gr_law_left.specs.ToGo.{to_go}
-use Rattle.gr_play.specs.declared.stop.Stop.TheVariants as stop
 use Rattle.gr_play.specs.Playing.{start}
 use Rattle.gr_play.specs.Progress.{PlaysTo, PlaysPart}
 use Rattle.gr_play.specs.Room.{HasRoomFor}
