@@ -1,3 +1,5 @@
+#![tactic(auto, unfolding(crate::specs::Index::IsLaidOut))]
+
 ghost use Rattle.std.specs.Prelude.{◌≡◌, ◌<◌, ◌≤◌, ◌+◌, ◌^◌, [], OnOk, OnErr, IsNone, IfSome, slice_get, nat_lt, length, filter, find, is_some, ◌==◌};
 ghost use Rattle.std.specs.List.{prefix_len};
 ghost use Rattle.std.specs.Vec.{vec_len, vec_capacity};
@@ -27,23 +29,17 @@ pub struct Arcs {
 }
 
 impl Model for Arcs {
-    ghost use Rattle.std.specs.Prelude.{◌≡◌, ◌≤◌, false};
+    ghost use Rattle.std.specs.Prelude.{◌≤◌};
     ghost use Rattle.std.specs.Vec.{vec_len, vec_capacity};
-    ghost use Rattle.gr_base.specs.Rising.{RisesBy};
-    ghost use Rattle.gr_arcs.specs.declared.end.End.TheVariants.{Source, Target};
-    ghost use Rattle.gr_arcs.specs.Index.{IsIndex};
-    ghost use Rattle.gr_arcs.specs.Layers.{EdgeLayers, number_of};
+    ghost use Rattle.gr_arcs.specs.Index.{IsLaidOut};
+    ghost use Rattle.gr_arcs.specs.Layers.{EdgeLayers};
 
     ghost Value = { EdgeLayers };
 
     ghost view = { λ a. record { stable = a.stable.items; pending = a.pending.items } };
 
     ghost invariant = { λ a. record {
-      stable_rises : RisesBy number_of a.stable.items;
-      pending_rises : RisesBy number_of a.pending.items;
-      targets : IsIndex Target a.stable.items a.by_target.items;
-      sources : IsIndex Source a.stable.items a.by_source.items;
-      settled : a.staged ≡ false → a.pending.items ≡ a.stable.items;
+      laid_out : IsLaidOut a.stable.items a.pending.items a.by_target.items a.by_source.items a.staged;
       room_for_install : vec_len a.pending ≤ vec_capacity a.stable;
       room_for_targets : vec_len a.pending ≤ vec_capacity a.by_target;
       room_for_sources : vec_len a.pending ≤ vec_capacity a.by_source;
