@@ -1,11 +1,14 @@
+#![tactic(auto, unfolding(crate::specs::Index::IsLaidOut))]
+
 ghost use Rattle.std.specs.Prelude.{◌≡◌, ◌<◌, ◌≤◌, ◌+◌, ◌^◌, [], OnOk, OnErr, IsNone, IfSome, slice_get, nat_lt, length, filter, find, is_some, ◌==◌};
 ghost use Rattle.std.specs.List.{prefix_len};
 ghost use Rattle.std.specs.Vec.{vec_len, vec_capacity};
 ghost use Rattle.gr_base.specs.Rising.{RisesBy, with_item};
 ghost use Rattle.gr_arcs.specs.Layers.{EdgesRise, number_of};
-ghost use Rattle.gr_arcs.specs.End.{vertex_at};
 
+use crate::copies::{copy_over, make_room};
 use crate::end::End;
+use crate::index::{index_edges, nth_at};
 use gr_base::{NumberedEdge, OutOfMemory};
 use std::alloc::Global;
 use std::marker::Model;
@@ -13,27 +16,33 @@ use std::marker::Model;
 /// The edges that stand at a place, by rising number, in two layers: `stable` counts now, and what is staged goes
 /// into `pending`, which counts from the next `install` on.
 ///
-/// Neither `install` nor `discard` takes memory: `stage_edge` has reserved in each layer the room for the other.
+/// The stable edges stand in two indices as well, by target and by source, so that those of a vertex are found by a
+/// binary search. Neither `install` nor `discard` takes memory: `stage_edge` has reserved in each layer, and in each
+/// index, the room for the other.
 #[derive(Drop)]
 pub struct Arcs {
     stable: Vec<NumberedEdge>,
     pending: Vec<NumberedEdge>,
+    by_target: Vec<NumberedEdge>,
+    by_source: Vec<NumberedEdge>,
+    staged: bool,
 }
 
 impl Model for Arcs {
     ghost use Rattle.std.specs.Prelude.{◌≤◌};
     ghost use Rattle.std.specs.Vec.{vec_len, vec_capacity};
-    ghost use Rattle.gr_base.specs.Rising.{RisesBy};
-    ghost use Rattle.gr_arcs.specs.Layers.{EdgeLayers, number_of};
+    ghost use Rattle.gr_arcs.specs.Index.{IsLaidOut};
+    ghost use Rattle.gr_arcs.specs.Layers.{EdgeLayers};
 
     ghost Value = { EdgeLayers };
 
     ghost view = { λ a. record { stable = a.stable.items; pending = a.pending.items } };
 
     ghost invariant = { λ a. record {
-      stable_rises : RisesBy number_of a.stable.items;
-      pending_rises : RisesBy number_of a.pending.items;
+      laid_out : IsLaidOut a.stable.items a.pending.items a.by_target.items a.by_source.items a.staged;
       room_for_install : vec_len a.pending ≤ vec_capacity a.stable;
+      room_for_targets : vec_len a.pending ≤ vec_capacity a.by_target;
+      room_for_sources : vec_len a.pending ≤ vec_capacity a.by_source;
       room_for_discard : vec_len a.stable ≤ vec_capacity a.pending;
     } };
 }
@@ -46,6 +55,9 @@ impl Arcs {
         Arcs {
             stable: Vec::new(alloc),
             pending: Vec::new(alloc),
+            by_target: Vec::new(alloc),
+            by_source: Vec::new(alloc),
+            staged: false,
         }
     }
 
@@ -72,22 +84,24 @@ impl Arcs {
         holds_number(self.pending.as_slice(), number)
     }
 
-    /// The `i`-th stable edge into a vertex, counted from 0 in rising number. It scans the edges from the first on.
+    /// The `i`-th stable edge into a vertex, counted from 0 in rising number, in time logarithmic in the number
+    /// of edges.
     pub fn into_vertex(&self, v: u32, i: usize) -> Option<NumberedEdge>
         ensures edge { result ≡ slice_get (filter (λ e. e.edge.dst == v) self.now.stable) i }
         ensures next_fits { IfSome result (λ _. i + 1 < 2 ^ 64) }
         ensures rise { EdgesRise self.now }
     {
-        nth_at(self.stable.as_slice(), End::Target, v, i)
+        nth_at(self.by_target.as_slice(), End::Target, v, i)
     }
 
-    /// The `i`-th stable edge out of a vertex, counted from 0 in rising number. It scans the edges from the first on.
+    /// The `i`-th stable edge out of a vertex, counted from 0 in rising number, in time logarithmic in the number
+    /// of edges.
     pub fn out_of(&self, v: u32, i: usize) -> Option<NumberedEdge>
         ensures edge { result ≡ slice_get (filter (λ e. e.edge.src == v) self.now.stable) i }
         ensures next_fits { IfSome result (λ _. i + 1 < 2 ^ 64) }
         ensures rise { EdgesRise self.now }
     {
-        nth_at(self.stable.as_slice(), End::Source, v, i)
+        nth_at(self.by_source.as_slice(), End::Source, v, i)
     }
 
     /// Adds a pending edge, whose number is not pending yet. An edge above all others costs amortized constant time
@@ -99,25 +113,37 @@ impl Arcs {
         ensures ok { OnOk result (self.new ≡ record self.old { pending = with_item number_of edge self.old.pending }) }
         ensures err { OnErr result (self.new ≡ self.old) }
     {
-        let more = (self.pending.len() + 1).saturating_sub(self.stable.len());
-        self.stable.reserve(more)?;
-        put_edge(&mut self.pending, edge)
+        let count = self.pending.len() + 1;
+        make_room(&mut self.stable, count)?;
+        make_room(&mut self.by_target, count)?;
+        make_room(&mut self.by_source, count)?;
+        put_edge(&mut self.pending, edge)?;
+        self.staged = true;
+        Ok(())
     }
 
-    /// Makes the stable layer equal to the pending one, in linear time. It takes no memory.
+    /// Makes the stable layer equal to the pending one. It takes no memory, linear-logarithmic time where an edge was
+    /// staged since the last `install` or `discard`, and else constant time.
     pub fn install(&mut self)
         ensures { self.new ≡ record self.old { stable = self.old.pending } }
     {
-        self.stable.clear();
-        let _ = self.stable.extend_from_slice(self.pending.as_slice());
+        if self.staged {
+            copy_over(&mut self.stable, self.pending.as_slice());
+            index_edges(&mut self.by_target, End::Target, self.pending.as_slice());
+            index_edges(&mut self.by_source, End::Source, self.pending.as_slice());
+            self.staged = false;
+        }
     }
 
-    /// Makes the pending layer equal to the stable one, in linear time. It takes no memory.
+    /// Makes the pending layer equal to the stable one. It takes no memory, linear time where an edge was staged since
+    /// the last `install` or `discard`, and else constant time.
     pub fn discard(&mut self)
         ensures { self.new ≡ record self.old { pending = self.old.stable } }
     {
-        self.pending.clear();
-        let _ = self.pending.extend_from_slice(self.stable.as_slice());
+        if self.staged {
+            copy_over(&mut self.pending, self.stable.as_slice());
+            self.staged = false;
+        }
     }
 }
 
@@ -140,23 +166,6 @@ fn holds_number(edges: &[NumberedEdge], number: u32) -> bool
     } else {
         false
     }
-}
-
-/// The `i`-th of the edges that have this vertex at this end.
-fn nth_at(edges: &[NumberedEdge], end: End, v: u32, i: usize) -> Option<NumberedEdge>
-    ensures edge { result ≡ slice_get (filter (λ e. vertex_at end e.edge == v) edges.now) i }
-    ensures next_fits { IfSome result (λ _. i + 1 < 2 ^ 64) }
-{
-    let mut left = i;
-    for edge in edges {
-        if end.of(&edge.edge) == v {
-            if left == 0 {
-                return Some(*edge);
-            }
-            left -= 1;
-        }
-    }
-    None
 }
 
 /// Puts an edge at its number.

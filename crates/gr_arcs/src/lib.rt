@@ -2,7 +2,9 @@
 #![tactic(auto)]
 
 mod arcs;
+mod copies;
 mod end;
+mod index;
 
 pub use arcs::Arcs;
 
@@ -57,6 +59,31 @@ mod tests {
         assert_eq!(rt; arcs.is_pending(4), false);
         arcs.install();
         assert_eq!(rt; arcs.count(), 3);
+        Ok(())
+    }
+
+    #[test]
+    fn a_further_install_finds_the_edges_between(rt: HostRuntime) -> Result<(), Fail> {
+        let mut arcs = Arcs::new(rt.alloc());
+        stage(&mut arcs, edge(6, 2, 7))?;
+        stage(&mut arcs, edge(2, 7, 7))?;
+        arcs.install();
+        stage(&mut arcs, edge(4, 9, 7))?;
+        stage(&mut arcs, edge(0, 7, 2))?;
+        assert_eq!(rt; arcs.into_vertex(7, 1), Some(edge(6, 2, 7)));
+        arcs.install();
+        for (v, i, into, out) in [
+            (7, 0, Some(edge(2, 7, 7)), Some(edge(0, 7, 2))),
+            (7, 1, Some(edge(4, 9, 7)), Some(edge(2, 7, 7))),
+            (7, 2, Some(edge(6, 2, 7)), None),
+            (2, 0, Some(edge(0, 7, 2)), Some(edge(6, 2, 7))),
+            (9, 0, None, Some(edge(4, 9, 7))),
+            (8, 0, None, None),
+            (u32::MAX, usize::MAX, None, None),
+        ] {
+            assert_eq!(rt; arcs.into_vertex(v, i), into);
+            assert_eq!(rt; arcs.out_of(v, i), out);
+        }
         Ok(())
     }
 }

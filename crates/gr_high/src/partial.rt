@@ -18,8 +18,8 @@ use std::alloc::Global;
 /// The parts of sums that a place sends to the place `to` before new values are computed: one for each vertex that is
 /// due, has more than `theta` edges into it, is mastered by `to` and has a stable edge into it here.
 ///
-/// The cost is a scan of the copies, and for each due high vertex that `to` masters what its sum costs. The one error
-/// is that memory ran out.
+/// It scans the copies, and takes for each due high vertex that `to` masters a binary search among the edges, and where
+/// that finds one what the sum costs. The one error is that memory ran out.
 pub fn partials<P: VertexProgram>(
     alloc: Global,
     program: &P,

@@ -11,7 +11,8 @@ use gr_rows::Rows;
 /// The sum of what the stable edges into a vertex bring to it, joined from the unit in rising number: an edge that
 /// stands twice in the graph brings its part twice, and a vertex with no edge here has the unit. It takes no memory.
 ///
-/// The cost is a scan of the place's edges and a search among its copies for each of these edges.
+/// It takes one more binary search among the place's edges than there are edges into the vertex, and for each of these
+/// one among its copies.
 pub fn gather_low<P: VertexProgram>(
     program: &P,
     rows: &Rows<P::Value>,

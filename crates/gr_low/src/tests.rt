@@ -1,4 +1,5 @@
-ghost use Rattle.std.specs.Prelude.{◌≡◌, [], ◌∷◌, IfOk, Some, true};
+ghost use Rattle.std.specs.Prelude.{◌≡◌, [], ◌∷◌, IfOk, Some, true, ℕ};
+ghost use Rattle.gr_base.specs.declared.records.NumberedEdge.{NumberedEdge};
 ghost use Rattle.gr_low.specs.Sources.{SourcesReady};
 ghost use Rattle.gr_sum.specs.InDegree.{in_degree};
 
@@ -44,6 +45,18 @@ struct Place {
     arcs: Arcs,
 }
 
+// An edge from vertex 1 to itself and two to it from vertex 0.
+fn three_into_one(alloc: Global) -> Result<Arcs, OutOfMemory>
+    ensures { IfOk result (λ a. let to_one : ℕ → ℕ → NumberedEdge = λ n v. record { number = n; edge = record { src = v; dst = 1; weight = 1 } } in a.stable ≡ to_one 0 0 ∷ to_one 1 1 ∷ to_one 2 0 ∷ []) }
+{
+    let mut arcs = Arcs::new(alloc);
+    arcs.stage_edge(edge(0, 0, 1))?;
+    arcs.stage_edge(edge(1, 1, 1))?;
+    arcs.stage_edge(edge(2, 0, 1))?;
+    arcs.install();
+    Ok(arcs)
+}
+
 // Vertex 1 with an edge from itself and two from vertex 0.
 fn staged(alloc: Global) -> Result<Place, OutOfMemory>
     ensures { IfOk result (λ p. SourcesReady in_degree p.rows.stable p.arcs.stable) }
@@ -52,11 +65,7 @@ fn staged(alloc: Global) -> Result<Place, OutOfMemory>
     rows.stage_copy(copy(0, 0, 2))?;
     rows.stage_copy(copy(1, 3, 1))?;
     rows.install();
-    let mut arcs = Arcs::new(alloc);
-    arcs.stage_edge(edge(0, 0, 1))?;
-    arcs.stage_edge(edge(1, 1, 1))?;
-    arcs.stage_edge(edge(2, 0, 1))?;
-    arcs.install();
+    let arcs = three_into_one(alloc)?;
     Ok(Place { rows, arcs })
 }
 

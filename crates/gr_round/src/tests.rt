@@ -1,4 +1,5 @@
-ghost use Rattle.std.specs.Prelude.{◌≡◌, ◌<◌, ◌^◌, [], ◌∷◌, map, length, IfOk, Some, None, true};
+ghost use Rattle.std.specs.Prelude.{◌≡◌, ◌<◌, ◌^◌, [], ◌∷◌, map, length, IfOk, Some, None, true, ℕ};
+ghost use Rattle.gr_base.specs.declared.records.NumberedEdge.{NumberedEdge};
 ghost use Rattle.std.specs.List.{All};
 ghost use Rattle.gr_rows.specs.Layers.{vertex_of};
 ghost use Rattle.gr_low.specs.Sources.{SourcesReady};
@@ -60,23 +61,23 @@ fn own(vertex: u32, indeg: u32, outdeg: u32) -> VertexCopy<Amount>
     }
 }
 
-// A vertex that place 1 masters and both places hold.
-fn shared(vertex: u32, outdeg: u32) -> VertexCopy<Amount>
-    ensures { result ≡ record { vertex = vertex; indeg = 0; outdeg = outdeg; master = 1; holders = 0 ∷ 1 ∷ []; value = Some (record { 0 = 1000000 }); due = true } }
+// A vertex that both places hold, and no edge enters.
+fn shared(vertex: u32, outdeg: u32, master: u8) -> VertexCopy<Amount>
+    ensures { result ≡ record { vertex = vertex; indeg = 0; outdeg = outdeg; master = master; holders = 0 ∷ 1 ∷ []; value = Some (record { 0 = 1000000 }); due = true } }
 {
     VertexCopy {
         vertex,
         indeg: 0,
         outdeg,
-        master: 1,
+        master,
         holders: PlaceSet::none().with(0).with(1),
         value: Some(Amount(1000000)),
         due: true,
     }
 }
 
-// The mirror at place 1 of a vertex that no edge leaves: it holds no value.
-fn mirror(vertex: u32, indeg: u32) -> VertexCopy<Amount>
+// A vertex that place 0 masters, both places hold and no edge leaves: a copy without its value.
+fn readerless(vertex: u32, indeg: u32) -> VertexCopy<Amount>
     ensures { result ≡ record { vertex = vertex; indeg = indeg; outdeg = 0; master = 0; holders = 0 ∷ 1 ∷ []; value = None; due = true } }
 {
     VertexCopy {
@@ -90,6 +91,18 @@ fn mirror(vertex: u32, indeg: u32) -> VertexCopy<Amount>
     }
 }
 
+// Two edges from vertex 0 to 1 and one from 1 to itself.
+fn two_and_a_loop(alloc: Global) -> Result<Arcs, OutOfMemory>
+    ensures { IfOk result (λ a. let to_one : ℕ → ℕ → NumberedEdge = λ n v. record { number = n; edge = record { src = v; dst = 1; weight = 1 } } in a.stable ≡ to_one 0 0 ∷ to_one 1 0 ∷ to_one 2 1 ∷ []) }
+{
+    let mut arcs = Arcs::new(alloc);
+    arcs.stage_edge(edge(0, 0, 1))?;
+    arcs.stage_edge(edge(1, 0, 1))?;
+    arcs.stage_edge(edge(2, 1, 1))?;
+    arcs.install();
+    Ok(arcs)
+}
+
 // Place 0 of one, with two edges from vertex 0 to 1 and one from 1 to itself.
 fn alone(alloc: Global) -> Result<Place, OutOfMemory>
     ensures sources { IfOk result (λ p. SourcesReady rank p.rows.stable p.arcs.stable) }
@@ -101,11 +114,7 @@ fn alone(alloc: Global) -> Result<Place, OutOfMemory>
     rows.stage_copy(own(0, 0, 2))?;
     rows.stage_copy(own(1, 3, 1))?;
     rows.install();
-    let mut arcs = Arcs::new(alloc);
-    arcs.stage_edge(edge(0, 0, 1))?;
-    arcs.stage_edge(edge(1, 0, 1))?;
-    arcs.stage_edge(edge(2, 1, 1))?;
-    arcs.install();
+    let arcs = two_and_a_loop(alloc)?;
     Ok(Place { rows, arcs })
 }
 
@@ -117,12 +126,29 @@ fn star(alloc: Global) -> Result<Place, OutOfMemory>
     ensures few { IfOk result (λ p. length p.rows.stable < 2 ^ 32) }
 {
     let mut rows = Rows::new(alloc);
-    rows.stage_copy(mirror(0, 6))?;
-    rows.stage_copy(shared(1, 2))?;
+    rows.stage_copy(readerless(0, 6))?;
+    rows.stage_copy(shared(1, 2, 1))?;
     rows.install();
     let mut arcs = Arcs::new(alloc);
     arcs.stage_edge(edge(0, 1, 0))?;
     arcs.stage_edge(edge(2, 1, 0))?;
+    arcs.install();
+    Ok(Place { rows, arcs })
+}
+
+// Place 0 of two, with the one edge into vertex 0, which no edge leaves and of which it has no value.
+fn leaf(alloc: Global) -> Result<Place, OutOfMemory>
+    ensures sources { IfOk result (λ p. SourcesReady rank p.rows.stable p.arcs.stable) }
+    ensures values { IfOk result (λ p. ValuesFit rank p.rows.stable) }
+    ensures pending { IfOk result (λ p. p.rows.pending ≡ p.rows.stable) }
+    ensures few { IfOk result (λ p. length p.rows.stable < 2 ^ 32) }
+{
+    let mut rows = Rows::new(alloc);
+    rows.stage_copy(readerless(0, 1))?;
+    rows.stage_copy(shared(1, 2, 0))?;
+    rows.install();
+    let mut arcs = Arcs::new(alloc);
+    arcs.stage_edge(edge(0, 1, 0))?;
     arcs.install();
     Ok(Place { rows, arcs })
 }
@@ -306,6 +332,48 @@ fn parts_and_signals_go_to_the_master_of_a_high_vertex(rt: HostRuntime) -> Resul
             Told::Rest,
         ];
         assert_eq!(rt; all.as_slice(), want.as_slice());
+        assert_eq!(rt; place.rows.pending(0).map(|c| c.value), Some(None));
+    }
+    Ok(())
+}
+
+#[test]
+fn the_value_of_a_vertex_without_readers_stays_at_its_master(rt: HostRuntime) -> Result<(), Fail> {
+    let alloc = rt.alloc();
+    let mut place = leaf(alloc)?;
+    let all = play(
+        alloc,
+        0,
+        PlaceSet::all(2),
+        100,
+        &mut place.rows,
+        &place.arcs,
+    )?;
+    // The one new value that is sent is that of vertex 1.
+    let want = [
+        Told::Computed(Stage::Gather),
+        Told::Sent(Stage::Gather, 0),
+        Told::Waiting(Stage::Gather, 1),
+        Told::Computed(Stage::Update),
+        Told::Sent(Stage::Update, 1),
+        Told::Waiting(Stage::Update, 1),
+        Told::Computed(Stage::Signal),
+        Told::Sent(Stage::Signal, 0),
+        Told::Waiting(Stage::Signal, 1),
+        Told::Computed(Stage::Call),
+        Told::Sent(Stage::Call, 1),
+        Told::Waiting(Stage::Call, 1),
+        Told::Computed(Stage::End),
+        Told::Ready(1),
+        Told::Rest,
+    ];
+    assert_eq!(rt; all.as_slice(), want.as_slice());
+    for (v, value, due) in [(0, 575000, true), (1, 150000, false)] {
+        assert_eq!(rt;
+            place.rows.pending(v).and_then(|c| c.value),
+            Some(Amount(value))
+        );
+        assert_eq!(rt; place.rows.pending(v).map(|c| c.due), Some(due));
     }
     Ok(())
 }

@@ -14,8 +14,8 @@ use std::alloc::Global;
 /// The targets that the place `to` masters of the stable edges from woken vertices: the Signal body to that place. The
 /// woken vertices rise.
 ///
-/// It takes, for each copy that `to` masters, the time to read the edges into its vertex, and for each of these a
-/// search among the woken vertices.
+/// It scans the copies, and reads the edges into each vertex that `to` masters as far as the first from a woken one.
+/// Each of these takes a binary search among the place's edges and one among the woken vertices.
 ///
 /// # Errors
 ///

@@ -1,0 +1,13 @@
+use Rattle.std.proofs.Common.{◌∙◌, eqb, List, ap}
+use Rattle.std.specs.Prelude.{slice_get}
+use Rattle.std.specs.List.{filter}
+use Rattle.gr_base.specs.declared.records.NumberedEdge.{NumberedEdge}
+use Rattle.gr_arcs.specs.Index.{IsLaidOut}
+use Rattle.gr_arcs.proofs.arcs.Arcs.into_vertex.Goals as goal
+
+pub returns-clause-edge : goal.returns-clause-edge
+unfolding IsLaidOut
+returns-clause-edge c =
+    let those = λ (l : List NumberedEdge). filter (λ e. eqb e.edge.dst c.args.v) l in
+    c.nth_at.ensures.edge ∙ ap (λ l. slice_get l c.args.i)
+    (ap those c.as_slice.ensures.value ∙ (c.self.invariant.laid_out.targets.same c.args.v ∙ ap (λ a. those a.stable) c.self.view_is))
