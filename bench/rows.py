@@ -235,7 +235,7 @@ def first_difference(what, wanted, got):
         return f'{what}: {"none" if wanted is None else "a file"} is wanted'
     a, b = wanted.splitlines(True), got.splitlines(True)
     at = next((i for i, (x, y) in enumerate(zip(a, b)) if x != y), min(len(a), len(b)))
-    shown = lambda lines: lines[at].decode(errors='replace').rstrip('\n') if at < len(lines) else 'no such line'
+    shown = lambda lines: lines[at].decode(errors='replace') if at < len(lines) else 'no such line'
     return f'{what}, line {at + 1}: wanted {shown(a)!r}, got {shown(b)!r}'
 
 
