@@ -30,15 +30,10 @@ use Rattle.gr_law_network.specs.Law.{IsKept}
 use Rattle.gr_law_network.proofs.Kept.{deliver-kept, drop-kept}
 use Rattle.gr_law_round.proofs.Work.{work-kept}
 use Rattle.gr_law_commit.proofs.Commit.{not-false, commit-kept}
-use Rattle.gr_law_runs.specs.Law.{is_plain, after_events}
+use Rattle.gr_law_runs.specs.Law.{after_events}
+use Rattle.gr_law_runs.specs.Undisturbed.{is_plain, is_undisturbed, Undisturbed, UndisturbedIn}
 use Rattle.gr_lists.proofs.Tests.{by_test}
 use Rattle.gr_lists.proofs.Any.{find-none_of}
-
--- rounds go on, or are done
-abbrev pub is_undisturbed : Mode → Bool
-is_undisturbed mode.Running = true
-is_undisturbed mode.Done = true
-is_undisturbed _ = false
 
 -- what of the coordinator no undisturbed event changes but a commit
 pub record IsSameCoordinator (c d : Coordinator) : Type 0 where
@@ -54,6 +49,27 @@ pub record IsUndisturbed {V A : Type 0} (P : Program V A) (es : List Edge) (vs :
   pub limit : c.coordinator.limit ≡ rounds
   pub none_retired : c.coordinator.retired ≡ []
   pub all_up : (p : ℕ) → has (parties c.coordinator) p ≡ true → is_up c p ≡ true
+
+module _ {V A : Type 0} (P : Program V A) (es : List Edge) (vs : List ℕ) (limit : ℕ) (c : Cluster V A) where
+  pub undisturbed-in : IsUndisturbed P es vs limit c → UndisturbedIn P es vs c
+  undisturbed-in U = record {
+    state = U.state;
+    holds = record { agrees = U.agrees; mode = U.mode; none_retired = U.none_retired; all_up = U.all_up };
+    edges = U.edges;
+    vertices = U.vertices;
+  }
+
+  pub in-undisturbed : UndisturbedIn P es vs c → c.coordinator.limit ≡ limit → IsUndisturbed P es vs limit c
+  in-undisturbed G l = record {
+    state = G.state;
+    agrees = G.holds.agrees;
+    edges = G.edges;
+    vertices = G.vertices;
+    mode = G.holds.mode;
+    limit = l;
+    none_retired = G.holds.none_retired;
+    all_up = G.holds.all_up;
+  }
 
 module _ {V A : Type 0} (P : Program V A) (c : Cluster V A) where
   worked-same : (p : ℕ) (h : Host V A) (x : Todo) → IsSameCoordinator c.coordinator (worked P c p h x).0.coordinator
@@ -101,7 +117,7 @@ module _ {V A : Type 0} (P : Program V A) (c : Cluster V A) where
       (λ o. rw o (record { mode = refl; limit = refl }))
       (λ o. rw o (dropped-same i (slice_get c.flight i)))
 
-no-rebuild : (m : Mode) → is_undisturbed m ≡ true → (is_rebuild m ≡ false) × (is_failed m ≡ false)
+pub no-rebuild : (m : Mode) → is_undisturbed m ≡ true → (is_rebuild m ≡ false) × (is_failed m ≡ false)
 no-rebuild mode.Running u = (refl, refl)
 no-rebuild mode.Done u = (refl, refl)
 no-rebuild mode.Failed u = absurd (let bad : false ≡ true = u in cc)
@@ -135,10 +151,10 @@ module _ {V A : Type 0} (P : Program V A) (L : ProgramLaws P) (es : List Edge) (
     }
 
     -- nobody is seen as crashed
-    nobody-down : down_among c (parties c.coordinator) ≡ []
+    pub nobody-down : down_among c (parties c.coordinator) ≡ []
     nobody-down = filter-none (λ p. not (is_up c p)) (parties c.coordinator) (λ p m. ap not (U.all_up p m))
 
-    looks-at-parties : looked_at c.coordinator ≡ parties c.coordinator
+    pub looks-at-parties : looked_at c.coordinator ≡ parties c.coordinator
     looks-at-parties = ap (λ b. if b then c.coordinator.live else parties c.coordinator) (no-rebuild c.coordinator.mode U.mode).1
 
     running : is_over c.coordinator.mode ≡ false → c.coordinator.mode ≡ mode.Running
@@ -216,3 +232,11 @@ module _ {V A : Type 0} (P : Program V A) (L : ProgramLaws P) (es : List Edge) (
   pub run-undisturbed : (events : List Event) → Each (λ e. IsTrue (is_plain e)) events → (c : Cluster V A) → IsUndisturbed P es vs limit c → IsUndisturbed P es vs limit (after_events P events c)
   run-undisturbed [] h c U = U
   run-undisturbed (e ∷ events) h c U = run-undisturbed events h.1 (step P c e).0 (step-undisturbed c U e h.0)
+
+-- a plain event disturbs nothing
+pub plain-undisturbed : {V A : Type 0} (P : Program V A) → ProgramLaws P → (t : Truth V) (c : Cluster V A) (e : Event) → IsTrue (is_plain e) → Undisturbed P t c
+    → UndisturbedIn P (edge_list t) t.vertices (step P c e).0 × ((step P c e).0.coordinator.limit ≡ c.coordinator.limit)
+plain-undisturbed P L t c e y U =
+    let here : UndisturbedIn P (edge_list t) t.vertices c = record { state = t; holds = U; edges = refl; vertices = refl } in
+    let D = step-undisturbed P L (edge_list t) t.vertices c.coordinator.limit c (in-undisturbed P (edge_list t) t.vertices c.coordinator.limit c here refl) e y in
+    (undisturbed-in P (edge_list t) t.vertices c.coordinator.limit (step P c e).0 D, D.limit)

@@ -31,8 +31,9 @@ use Rattle.gr_lists.proofs.Items.{items-rising, parts-whole}
 use Rattle.gr_lists.proofs.Maps.{Each-map, map-rises}
 use Rattle.gr_law_load.proofs.Ranges.{has-below}
 use Rattle.gr_law_load.proofs.Load.{load-agrees, same-edges, up-at}
-use Rattle.gr_law_runs.specs.Law.{is_plain, after_events, HasResult}
-use Rattle.gr_law_runs.proofs.Plain.{is_undisturbed, IsUndisturbed, run-undisturbed}
+use Rattle.gr_law_runs.specs.Law.{after_events, HasResult}
+use Rattle.gr_law_runs.specs.Undisturbed.{is_plain, is_undisturbed}
+use Rattle.gr_law_runs.proofs.Plain.{IsUndisturbed, run-undisturbed}
 
 module _ {V A : Type 0} (P : Program V A) (t : Truth V) (c : Cluster V A) (AG : Agree P t c) (done : c.coordinator.mode ≡ mode.Done) (none_retired : c.coordinator.retired ≡ []) where
   abbrev value_of : VertexCopy V → Option (ValueOf V)
@@ -101,7 +102,7 @@ module _ {V A : Type 0} (P : Program V A) (t : Truth V) (c : Cluster V A) (AG : 
 
 module _ {V A : Type 0} (P : Program V A) (L : ProgramLaws P) (s : Setting) (es : List Edge) (vs : List ℕ) (IS : IsSetting s) (IG : IsGraph es vs) where
   -- a loaded cluster is undisturbed
-  load-undisturbed : IsUndisturbed P es vs s.limit (load P s es vs)
+  pub load-undisturbed : IsUndisturbed P es vs s.limit (load P s es vs)
   unfolding load
   load-undisturbed = record {
     state = first_truth P s es vs;
@@ -121,12 +122,16 @@ module _ {V A : Type 0} (P : Program V A) (L : ProgramLaws P) (s : Setting) (es 
       live : (p : ℕ) → (has (below s.places) p || false) ≡ true → has (below s.places) p ≡ true
       live p e = sym (or_false (has (below s.places) p)) ∙ e
 
-  pub plain-result : (events : List Event) → Each (λ e. IsTrue (is_plain e)) events → (after_events P events (load P s es vs)).coordinator.mode ≡ mode.Done → HasResult P es vs s.limit (after_events P events (load P s es vs))
-  plain-result events plain done =
-      let U = run-undisturbed P L es vs s.limit events plain (load P s es vs) load-undisturbed in
+  -- a cluster of this graph that is undisturbed and done has the result
+  pub done-result : (c : Cluster V A) → IsUndisturbed P es vs s.limit c → c.coordinator.mode ≡ mode.Done → HasResult P es vs s.limit c
+  done-result c U done =
       let at_last = U.agrees.open_work.end.done done ∙ (λ i. last_round P (U.edges i) (U.vertices i) (U.limit i)) in
       record {
         round = at_last;
-        values = results-are P U.state (after_events P events (load P s es vs)) U.agrees done U.none_retired
+        values = results-are P U.state c U.agrees done U.none_retired
             ∙ ((λ i. shown (U.agrees.committed.round.state i).value (U.vertices i)) ∙ (λ i. shown (state_after P (U.edges i) (at_last i)).value vs));
       }
+
+  pub plain-result : (events : List Event) → Each (λ e. IsTrue (is_plain e)) events → (after_events P events (load P s es vs)).coordinator.mode ≡ mode.Done → HasResult P es vs s.limit (after_events P events (load P s es vs))
+  plain-result events plain done =
+      done-result (after_events P events (load P s es vs)) (run-undisturbed P L es vs s.limit events plain (load P s es vs) load-undisturbed) done
