@@ -1,4 +1,4 @@
--- What a barrier makes of a cluster where it finds no place down, and that the invariant stays.
+-- What a barrier makes of a cluster where it finds no place down.
 use Rattle.std.proofs.Common.{◌≡◌, [], true, false, refl, sym, ap, ◌∙◌, subst}
 use Rattle.gr_program.specs.Program.{Program, ProgramLaws}
 use Rattle.gr_batch.specs.declared.outcome.Outcome.{Outcome}
@@ -18,14 +18,6 @@ use Rattle.gr_lists.proofs.Tests.{by_test, by_option}
 use Rattle.gr_law_commit.proofs.Commit.{round-commits}
 use Rattle.gr_core.specs.Steps.{told_of}
 use Rattle.gr_core.proofs.Network.{step-taken}
-
-running-mode : (m : Mode) → is_over m ≡ false → is_rebuild m ≡ false → is_failed m ≡ false → m ≡ mode.Running
-running-mode mode.Running o r f = refl
-running-mode mode.Failed o r f = absurd (let bad : true ≡ false = f in cc)
-running-mode mode.Recovering o r f = absurd (let bad : true ≡ false = r in cc)
-running-mode mode.Repairing o r f = absurd (let bad : true ≡ false = r in cc)
-running-mode mode.Done o r f = absurd (let bad : true ≡ false = o in cc)
-running-mode mode.Lost o r f = absurd (let bad : true ≡ false = o in cc)
 
 module _ {V A : Type 0} (P : Program V A) (c : Cluster V A) (over : is_over c.coordinator.mode ≡ false) (none : is_rebuild c.coordinator.mode ≡ false) (up : down_among c (looked_at c.coordinator) ≡ []) where
   abbrev decided : Coordinator × Verdict
@@ -48,24 +40,3 @@ module _ {V A : Type 0} (P : Program V A) (c : Cluster V A) (over : is_over c.co
 
   pub barrier-step : (co : Coordinator) (v : Verdict) → (co, v) ≡ at_barrier c.coordinator [] → (record c { coordinator = co }, told_of v) ≡ step P c event.Barrier
   barrier-step co v is = ap (λ (x : Coordinator × Verdict). (record c { coordinator = x.0 }, told_of x.1)) is ∙ (told-after ∙ sym barrier-after)
-
-  -- it commits only a round
-  commit-of-round : is_commit (after).1 ≡ true → is_failed c.coordinator.mode ≡ false
-  unfolding at_barrier
-  commit-of-round y = by_test (is_failed c.coordinator.mode)
-      (λ f. absurd (let y' : false ≡ true = rw (over, f) at y in cc))
-      (λ f. f)
-
-  kept-after : Invariant P c → is_commit (after).1 ≡ false → Invariant P (after).0
-  unfolding at_barrier
-  kept-after agree n = by_test (is_failed c.coordinator.mode)
-      (λ f. rw (over, f) agree)
-      (λ f. by_option (unready c.coordinator)
-      (λ u. absurd (let n' : true ≡ false = rw (over, f, u) at n in cc))
-      (λ p u. rw (over, f, u) agree))
-
-  pub barrier-invariant : ProgramLaws P → Invariant P c → Invariant P (step P c event.Barrier).0
-  barrier-invariant laws agree = by_test (is_commit (step P c event.Barrier).1)
-      (λ y. let running = running-mode c.coordinator.mode over none (commit-of-round (sym (ap (λ r. is_commit r.1) barrier-after) ∙ y)) in
-      (next P agree.0, round-commits P laws agree.0 c event.Barrier agree.1 y (ap is_round running)))
-      (λ n. subst (λ r. Invariant P r.0) (sym barrier-after) (kept-after agree (sym (ap (λ r. is_commit r.1) barrier-after) ∙ n)))

@@ -107,7 +107,7 @@ module _ {V A : Type 0} (P : Program V A) (L : ProgramLaws P) (t : Truth V) (c :
   failed-mode mode.Lost o r n = absurd (let bad : true ≡ false = o in cc)
 
   -- a place whose turn it is not rests
-  rest-here : (h : Host V A) → host c p ≡ Some h → turn_of c.coordinator (Some h) ≡ turn.Rest → todo c.coordinator p h ≡ Todo.Rest
+  pub rest-here : (h : Host V A) → host c p ≡ Some h → turn_of c.coordinator (Some h) ≡ turn.Rest → todo c.coordinator p h ≡ Todo.Rest
   unfolding todo
   rest-here h at is = by_test (nat_lt h.installed c.coordinator.commits)
       (λ i. absurd (let e = rw i at is in cc))

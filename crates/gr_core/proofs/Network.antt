@@ -1,4 +1,4 @@
--- What a delivery and a drop make of a cluster, and that the invariant stays.
+-- What a delivery and a drop make of a cluster.
 use Rattle.std.proofs.Common.{◌≡◌, ℕ, ◌≤◌, List, Bool, true, false, cond, ◌==◌, refl, sym, ap, ◌∙◌, subst, arith, Option, Some, None, slice_get, remove, eq-eqb, get_or, set, Result, Ok, Err}
 use Rattle.std.specs.Prelude.{count_by, IfOk, OnErr}
 use Rattle.std.specs.List.{list_any}
@@ -17,11 +17,11 @@ use Rattle.gr_view.specs.Modes.{is_over}
 use Rattle.gr_cluster.specs.Tables.{Host, Cluster, host, inbox_of}
 use Rattle.gr_cluster.specs.Network.{fate_at, received, delivered, dropped}
 use Rattle.gr_cluster.specs.Step.{step, taken_step}
-use Rattle.gr_agree.specs.Agree.{Invariant}
+use Rattle.gr_agree.specs.Truth.{Truth}
+use Rattle.gr_agree.specs.Agree.{Agree}
 use Rattle.gr_agree.specs.Network.{standing}
 use Rattle.gr_lists.proofs.Counts.{count_by-remove, some-counted}
 use Rattle.gr_lists.proofs.Tests.{by_test}
-use Rattle.gr_law_network.proofs.Kept.{deliver-kept, drop-kept}
 use Rattle.gr_core.specs.Steps.{may_drop}
 
 none-counted : {X : Type 0} (f : X → Bool) (xs : List X) → count_by f xs ≡ 0 → list_any f xs ≡ false
@@ -50,18 +50,12 @@ module _ {V A : Type 0} (P : Program V A) (c : Cluster V A) where
   unfolding step
   step-taken e o = rw o refl
 
-  pub deliver-invariant : (i : ℕ) → Invariant P c → Invariant P (step P c (event.Deliver i)).0
-  deliver-invariant i agree = (agree.0, (deliver-kept P agree.0 c agree.1 i).1)
-
-  pub drop-invariant : (i : ℕ) → Invariant P c → Invariant P (step P c (event.Discarded i)).0
-  drop-invariant i agree = (agree.0, (drop-kept P agree.0 c agree.1 i).1)
-
   -- no batch in flight lies in the inbox of its receiver
-  pub flight-fresh : (i : ℕ) (b : Batch V A) → Invariant P c → slice_get c.flight i ≡ Some b
+  pub flight-fresh : (i : ℕ) (b : Batch V A) (t : Truth V) → Agree P t c → slice_get c.flight i ≡ Some b
       → list_any (is_of b.sender b.epoch (stage_of_body b.body)) (inbox_of (host c b.receiver)) ≡ false
-  flight-fresh i b agree is =
+  flight-fresh i b t agree is =
       let s = stage_of_body b.body in
-      let once : standing c.flight (host c b.receiver) b.sender b.receiver b.epoch s ≤ 1 = agree.1.open_work.network.at_most_one b.sender b.receiver b.epoch s in
+      let once : standing c.flight (host c b.receiver) b.sender b.receiver b.epoch s ≤ 1 = agree.open_work.network.at_most_one b.sender b.receiver b.epoch s in
       let less = count_by-remove (is_from b.sender b.receiver b.epoch s) b c.flight i is in
       let one : cond {A = ℕ} (is_from b.sender b.receiver b.epoch s b) 1 0 ≡ 1 = ap (λ x. cond x 1 0) (from-itself b) in
       none-counted (is_of b.sender b.epoch s) (inbox_of (host c b.receiver)) (omega (arith, once, less, one))
@@ -77,12 +71,6 @@ module _ {V A : Type 0} (P : Program V A) (c : Cluster V A) where
   unfolding dropped
   dropped-gone i None r e is = absurd (let bad : false ≡ true = e in cc)
   dropped-gone i (Some b) r e is = rw (e, is b refl) refl
-
--- what a call that steps or fails leaves agrees with a committed state
-pub Invariant-stepped : {V A E : Type 0} (P : Program V A) (c d : Cluster V A) (s : Cluster V A × Outcome V A) (r : Result (Outcome V A) E)
-    → IfOk r (λ o. (d, o) ≡ s) → OnErr r (d ≡ c) → Invariant P c → Invariant P s.0 → Invariant P d
-Invariant-stepped P c d s (Ok o) is kept old new = subst (λ x. Invariant P x.0) (sym is) new
-Invariant-stepped P c d s (Err e) is kept old new = subst (Invariant P) (sym kept) old
 
 module _ {V A : Type 0} (k : Cluster V A) (i : ℕ) (hs : List (Option (Host V A))) (fl : List (Batch V A)) (at : k.hosts ≡ hs) (in_flight : k.flight ≡ fl) where
   -- none where there are not so many batches

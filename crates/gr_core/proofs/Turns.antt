@@ -1,21 +1,19 @@
--- What the parts of a place's work make of a cluster, and that the invariant stays.
+-- What the parts of a place's work make of a cluster.
 use Rattle.std.proofs.Common.{◌≡◌, ℕ, ◌+◌, List, true, false, refl, sym, ap, ◌∙◌, Option, Some, None, set, nat_lt}
 use Rattle.std.specs.Prelude.{option_map}
-use Rattle.gr_program.specs.Program.{Program, ProgramLaws}
+use Rattle.gr_program.specs.Program.{Program}
 use Rattle.gr_log.specs.Log.{Log, cut_log}
 use Rattle.gr_batch.specs.declared.outcome.Outcome.TheVariants as outcome
 use Rattle.gr_sched.specs.declared.event.Event.TheVariants as event
 use Rattle.gr_view.specs.declared.coordinator.Coordinator.{Coordinator}
-use Rattle.gr_view.specs.Modes.{is_over, is_rebuild, is_round}
+use Rattle.gr_view.specs.Modes.{is_over, is_round}
 use Rattle.gr_rules.specs.Todo.{Todo}
 use Rattle.gr_rules.specs.Taken.{log_at}
 use Rattle.gr_cluster.specs.Tables.{Host, Cluster, host}
 use Rattle.gr_cluster.specs.Todo.{todo}
 use Rattle.gr_cluster.specs.Work.{installed_host, adopted_host, worked, worked_at}
 use Rattle.gr_cluster.specs.Step.{step}
-use Rattle.gr_agree.specs.Agree.{Invariant}
 use Rattle.gr_lists.proofs.Tests.{by_test}
-use Rattle.gr_law_round.proofs.Work.{work-kept}
 use Rattle.gr_core.specs.declared.turn.Turn.TheVariants as turn
 use Rattle.gr_core.specs.Turns.{turn_of}
 use Rattle.gr_core.proofs.Network.{step-taken}
@@ -66,17 +64,14 @@ module _ {V A : Type 0} (co : Coordinator) where
       (λ r. absurd (let e' = rw (i, n, r) at e in cc))))
 
 module _ {V A : Type 0} (P : Program V A) (c : Cluster V A) (p : ℕ) (over : is_over c.coordinator.mode ≡ false) where
-  pub work-invariant : ProgramLaws P → is_rebuild c.coordinator.mode ≡ false → Invariant P c → Invariant P (step P c (event.Work p)).0
-  work-invariant laws no_rebuild agree = (agree.0, (work-kept P laws agree.0 c agree.1 no_rebuild p).1)
-
   pub work-step : (h : Host V A) (x : Todo) → host c p ≡ Some h → todo c.coordinator p h ≡ x → step P c (event.Work p) ≡ worked P c p h x
   work-step h x at next = step-taken P c (event.Work p) over ∙ (ap (worked_at P c p) at ∙ ap (worked P c p h) next)
 
-  todo-install : (h : Host V A) → nat_lt h.installed c.coordinator.commits ≡ true → todo c.coordinator p h ≡ Todo.Install
+  pub todo-install : (h : Host V A) → nat_lt h.installed c.coordinator.commits ≡ true → todo c.coordinator p h ≡ Todo.Install
   unfolding todo
   todo-install h less = rw (over, less) refl
 
-  todo-adopt : (h : Host V A) → nat_lt h.installed c.coordinator.commits ≡ false → nat_lt h.epoch c.coordinator.epoch ≡ true → todo c.coordinator p h ≡ Todo.Adopt
+  pub todo-adopt : (h : Host V A) → nat_lt h.installed c.coordinator.commits ≡ false → nat_lt h.epoch c.coordinator.epoch ≡ true → todo c.coordinator p h ≡ Todo.Adopt
   unfolding todo
   todo-adopt h installed less = rw (over, installed, less) refl
 

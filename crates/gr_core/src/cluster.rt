@@ -7,6 +7,7 @@ ghost use Rattle.gr_core.specs.Loaded.{setting_of};
 ghost use Rattle.gr_core.specs.Tables as tables;
 
 mod barrier;
+mod can_work;
 mod network;
 mod results;
 mod step;
@@ -28,7 +29,8 @@ use std::marker::Model;
 
 /// A cluster of places, each with a machine that may be down and a log that outlives it, and the batches between them.
 ///
-/// It agrees at all times with some committed state of the graph, its copies and their values.
+/// It agrees at all times with some committed state of the graph, its copies and their values; rounds go on or are done,
+/// and every place is up.
 #[derive(Drop)]
 pub struct Cluster<P: VertexProgram> {
     pub(crate) alloc: Global,
@@ -44,17 +46,19 @@ pub struct Cluster<P: VertexProgram> {
 }
 
 impl<P: VertexProgram> Model for Cluster<P> {
-    ghost use Rattle.gr_agree.specs.Agree.{Invariant};
+    ghost use Rattle.gr_law_runs.specs.Undisturbed.{RunsUndisturbed};
     ghost use Rattle.gr_core.specs.Tables.{Tables};
 
     ghost Value = { Tables P P.Value P.Acc };
 
     ghost view = { λ c. record { program = c.program; cluster = record { hosts = c.hosts.items; logs = c.logs.items; flight = c.flight; serial = c.serial; coordinator = c.coordinator; places = c.places; losses = c.losses; theta = c.theta } } };
 
-    ghost invariant = { λ c. Invariant (P.program_of c.program) (record { hosts = c.hosts.items; logs = c.logs.items; flight = c.flight; serial = c.serial; coordinator = c.coordinator; places = c.places; losses = c.losses; theta = c.theta }) };
+    ghost invariant = { λ c. RunsUndisturbed (P.program_of c.program) (record { hosts = c.hosts.items; logs = c.logs.items; flight = c.flight; serial = c.serial; coordinator = c.coordinator; places = c.places; losses = c.losses; theta = c.theta }) };
 }
 
 impl<P: VertexProgram> Cluster<P> {
+    ghost use Rattle.gr_law_runs.specs.Undisturbed.{RunsUndisturbed};
+
     /// The cluster before the first round: the graph is cut over the places of the job, and each vertex has its copies
     /// where its edges stand and where the losses of the job ask for more. All logs are committed.
     ///
@@ -128,7 +132,8 @@ impl<P: VertexProgram> Cluster<P> {
 
     /// What the cluster is at.
     pub fn mode(&self) -> Mode
-        ensures { result ≡ self.now.cluster.coordinator.mode }
+        ensures mode { result ≡ self.now.cluster.coordinator.mode }
+        ensures undisturbed { RunsUndisturbed (P.program_of self.now.program) self.now.cluster }
     {
         self.coordinator.mode
     }

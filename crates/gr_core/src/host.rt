@@ -8,6 +8,7 @@ ghost use Rattle.gr_batch.specs.Stages.{is_end};
 ghost use Rattle.gr_view.specs.declared.coordinator.Mode.{Mode};
 ghost use Rattle.gr_view.specs.Modes.{is_rebuild};
 ghost use Rattle.gr_rules.specs.Exchange.{unsent};
+ghost use Rattle.gr_rules.specs.Todo.{is_act};
 ghost use Rattle.gr_low.specs.Sources.{SourcesReady};
 ghost use Rattle.gr_round.specs.Needs.{ValuesFit, GathersFit, UpdatesFit, SignalsRise, CallsRise};
 ghost use Rattle.gr_round.specs.Todo.{is_told};
@@ -186,6 +187,13 @@ impl<P: VertexProgram> Host<P> {
             &self.arcs,
             &self.inbox,
         )
+    }
+
+    // Whether there is something to do at the place `me` in a round of an epoch that it has adopted.
+    pub(crate) fn can_act(&self, me: u8, view: &RoundView) -> bool
+        ensures { result ≡ is_act (next_of me view.now self.now) }
+    {
+        self.round.can_act(me, view, &self.inbox)
     }
 
     // Notes that the batch of the computed stage has gone to the least party that it was not sent to.

@@ -2,7 +2,7 @@
 #![tactic(auto)]
 
 mod ending;
-mod play;
+mod player;
 
 pub use ending::Ending;
-pub use play::play;
+pub use player::play;

@@ -1,3 +1,2 @@
-pub mod Causes
-pub mod Explaining
-pub mod Replies
+pub mod Lines
+pub mod Readings

@@ -1,6 +1,6 @@
 pub mod Chosen
+pub mod Contents
 pub mod Loading
-pub mod Outcome
+pub mod Reading
 pub mod Refusals
-pub mod Reply
 pub mod Words

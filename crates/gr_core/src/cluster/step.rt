@@ -1,9 +1,7 @@
-ghost use Rattle.std.specs.Prelude.{◌≡◌, ◌<◌, ◌-◌, ◌^◌, ℕ, false, [], length, IsTrue, IsOk, IfOk, OnErr};
+ghost use Rattle.std.specs.Prelude.{◌≡◌, ◌<◌, ◌-◌, ◌^◌, ℕ, false, length, IsTrue, IsOk, IfOk, OnErr};
 ghost use Rattle.gr_sched.specs.declared.event.Event.TheVariants as kind;
-ghost use Rattle.gr_view.specs.Modes.{is_rebuild};
-ghost use Rattle.gr_view.specs.Decisions.{looked_at};
-ghost use Rattle.gr_cluster.specs.Step.{step, down_among};
-ghost use Rattle.gr_law_runs.specs.Law.{is_plain};
+ghost use Rattle.gr_cluster.specs.Step.{step};
+ghost use Rattle.gr_law_runs.specs.Undisturbed.{is_plain};
 ghost use Rattle.gr_core.specs.Steps.{is_delivery, takes_memory};
 
 use crate::cluster::Cluster;
@@ -14,8 +12,8 @@ use gr_program::VertexProgram;
 use gr_sched::Event;
 
 impl<P: VertexProgram> Cluster<P> {
-    /// One event of a cluster that works undisturbed: a work of a place, a delivery, a drop or a barrier, where no
-    /// rebuild is open and a barrier finds no place down. After the end of the run nothing happens.
+    /// One event of a cluster that works undisturbed: a work of a place, a delivery, a drop or a barrier. After the end
+    /// of the run nothing happens.
     ///
     /// A work costs what the computing of a stage, or of the body of one batch, costs; a delivery copies its batch.
     ///
@@ -26,13 +24,10 @@ impl<P: VertexProgram> Cluster<P> {
     pub fn step(&mut self, event: Event) -> Result<Outcome<P::Value, P::Acc>, OutOfMemory>
         requires plain { IsTrue (is_plain event) }
         requires place { (p : ℕ) → event ≡ kind.Work p → p < self.old.cluster.places }
-        requires no_rebuild { is_rebuild self.old.cluster.coordinator.mode ≡ false }
-        requires up { event ≡ kind.Barrier → down_among self.old.cluster (looked_at self.old.cluster.coordinator) ≡ [] }
         requires flight { length self.old.cluster.flight < 2 ^ 32 - 1 }
         requires serial { self.old.cluster.serial < 2 ^ 64 - 1 }
         requires epoch { self.old.cluster.coordinator.epoch < 2 ^ 64 - 1 }
         requires commits { self.old.cluster.coordinator.commits < 2 ^ 64 - 1 }
-        requires rounds { self.old.cluster.coordinator.round < 2 ^ 32 - 1 }
         ensures ok { IfOk result (λ outcome. (self.new.cluster, outcome) ≡ step (P.program_of self.old.program) self.old.cluster event) }
         ensures program { self.new.program ≡ self.old.program }
         ensures err { OnErr result (self.new ≡ self.old) }

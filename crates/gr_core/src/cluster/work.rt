@@ -58,7 +58,7 @@ impl<P: VertexProgram> Cluster<P> {
     }
 
     // Which part of its work comes next at a place.
-    fn turn_at(&self, p: u8) -> Turn
+    pub(crate) fn turn_at(&self, p: u8) -> Turn
         requires { p < self.now.cluster.places }
         ensures { result ≡ turn_of self.now.cluster.coordinator (host self.now.cluster p) }
     {

@@ -9,9 +9,11 @@ use Rattle.gr_lists.proofs.Maps.{Each-map, map-rises}
 use Rattle.gr_edges.specs.declared.graph.VertexInfo.{VertexInfo}
 use Rattle.gr_edges.specs.Vertices.{id_of, ids}
 use Rattle.gr_view.specs.Decisions.{first_coordinator}
-use Rattle.gr_agree.specs.FirstTruth.{IsGraph, IsSetting, first_truth}
-use Rattle.gr_agree.specs.Agree.{Invariant}
-use Rattle.gr_law_load.proofs.Load.{load-holds}
+use Rattle.gr_cluster.specs.Load.{load}
+use Rattle.gr_agree.specs.FirstTruth.{IsGraph, IsSetting}
+use Rattle.gr_law_runs.specs.Undisturbed.{RunsUndisturbed}
+use Rattle.gr_law_runs.proofs.Plain.{undisturbed-in}
+use Rattle.gr_law_runs.proofs.Results.{load-undisturbed}
 use Rattle.gr_core.specs.Loaded.{setting_of}
 use Rattle.gr_core.proofs.Loaded.{load-is}
 use Rattle.gr_core.proofs.cluster.Cluster.load.Goals as goal
@@ -19,6 +21,7 @@ use Rattle.gr_core.proofs.cluster.Cluster.load.Goals as goal
 pub invariant_of-result : goal.invariant_of-result
 invariant_of-result g c =
     let P = g.P.VertexProgram.program_of c.args.program in
+    let laws = g.met.P.VertexProgram.laws c.args.program in
     let job = c.args.job.now in
     let graph = c.args.graph.now in
     let s = setting_of job in
@@ -45,7 +48,7 @@ invariant_of-result g c =
       few_edges = c.requires.edges;
     } in
     let coordinator : c.new-2.result ≡ first_coordinator s.places s.spares s.limit (nat_lt 0 (length vs)) = c.new-2.ensures ∙ ap (λ n. first_coordinator s.places s.spares s.limit (nat_lt 0 n)) (c.vertex_count-any_vertex.ensures.count ∙ sym (length-map xs id_of)) in
-    subst (Invariant P) (sym ((λ i. record {
+    subst (RunsUndisturbed P) (sym ((λ i. record {
       hosts = c.in_ok-hosts.ensures.hosts i;
       logs = c.in_ok-hosts.ensures.logs i;
       flight = c.new.ensures i;
@@ -54,7 +57,7 @@ invariant_of-result g c =
       places = s.places;
       losses = s.losses;
       theta = s.theta;
-    }) ∙ load-is P s es vs)) (first_truth P s es vs, (load-holds P s es vs setting whole).0)
+    }) ∙ load-is P s es vs)) (let U = undisturbed-in P es vs s.limit (load P s es vs) (load-undisturbed P laws s es vs setting whole) in (U.state, U.holds))
 
 pub returns : goal.returns
 returns g c =

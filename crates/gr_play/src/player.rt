@@ -44,12 +44,12 @@ pub fn play<P: VertexProgram, F: Files>(
     // How it ends.
     ensures ending { IfSome (told_by result) (λ e. e ≡ ending_of cluster.new.cluster) }
     ensures whole { IsSome (told_by result) → IsWhole (position_after (P.program_of cluster.old.program) steps.new (start cluster.old.cluster schedule.now)) }
-    ensures fault { result ≡ Ending.TraceFault → IsSome trace × Rose (F.seen files.old).write_faults (F.seen files.new).write_faults }
+    ensures fault { result ≡ Ending.TraceFault → IsSome trace.entry × Rose (F.seen files.old).write_faults (F.seen files.new).write_faults }
 
     // What it leaves in the files.
-    ensures traced { IsSome (told_by result) → IfSome (option_copied trace) (λ name. Traces (F.seen files.old) (F.seen files.new) name (text_of_steps (P.program_of cluster.old.program) (telling P.Value.numbers_of P.Acc.numbers_of) (start cluster.old.cluster schedule.now) steps.new)) }
-    ensures part { told_by result ≡ None → IfSome (option_copied trace) (λ name. TracesPart (F.seen files.old) (F.seen files.new) name (text_of_steps (P.program_of cluster.old.program) (telling P.Value.numbers_of P.Acc.numbers_of) (start cluster.old.cluster schedule.now) steps.new)) }
-    ensures untraced { IsNone trace → F.seen files.new ≡ F.seen files.old }
+    ensures traced { IsSome (told_by result) → IfSome (option_copied trace.entry) (λ name. Traces (F.seen files.old) (F.seen files.new) name (text_of_steps (P.program_of cluster.old.program) (telling P.Value.numbers_of P.Acc.numbers_of) (start cluster.old.cluster schedule.now) steps.new)) }
+    ensures part { told_by result ≡ None → IfSome (option_copied trace.entry) (λ name. TracesPart (F.seen files.old) (F.seen files.new) name (text_of_steps (P.program_of cluster.old.program) (telling P.Value.numbers_of P.Acc.numbers_of) (start cluster.old.cluster schedule.now) steps.new)) }
+    ensures untraced { IsNone trace.entry → F.seen files.new ≡ F.seen files.old }
     ensures loads { CountsNoLoad (F.seen files.old) (F.seen files.new) }
 {
     let Some(name) = trace else {

@@ -1,0 +1,48 @@
+ghost use Rattle.std.specs.Prelude.{◌≡◌, ◌<◌, Some};
+ghost use Rattle.gr_rules.specs.Todo.{is_act};
+ghost use Rattle.gr_cluster.specs.Tables.{Host as Held, host};
+ghost use Rattle.gr_cluster.specs.Todo.{can_work};
+ghost use Rattle.gr_core.specs.Steps.{next_of};
+
+use crate::cluster::Cluster;
+use crate::host::Host;
+use crate::turn::{Turn, is_over};
+use gr_program::VertexProgram;
+use gr_round::RoundView;
+
+impl<P: VertexProgram> Cluster<P> {
+    /// Whether the next work of a place does something: its outcome is neither that it waits nor that it is idle. It
+    /// takes no memory, and time in proportion to the batches in the inbox of the place.
+    pub fn can_work(&self, p: u8) -> bool
+        requires { p < self.now.cluster.places }
+        ensures { result ≡ can_work self.now.cluster.coordinator p (host self.now.cluster p) }
+    {
+        if is_over(self.coordinator.mode) {
+            return false;
+        }
+        match self.turn_at(p) {
+            Turn::Rest => false,
+            Turn::Install | Turn::Adopt => true,
+            Turn::Act => {
+                let view = RoundView {
+                    epoch: self.coordinator.epoch,
+                    round: self.coordinator.round,
+                    parties: self.coordinator.parties(),
+                    serial: self.serial,
+                    theta: self.theta,
+                };
+                can_act(&self.hosts[usize::from(p)], p, &view)
+            }
+        }
+    }
+}
+
+// Whether a place has something to do in a round.
+fn can_act<P: VertexProgram>(slot: &Option<Host<P>>, p: u8, view: &RoundView) -> bool
+    ensures { (h : Held P.Value P.Acc) → slot.now ≡ Some h → result ≡ is_act (next_of p view.now h) }
+{
+    match slot {
+        None => false,
+        Some(host) => host.can_act(p, view),
+    }
+}
