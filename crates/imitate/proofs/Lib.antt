@@ -1,2 +1,7 @@
+pub mod Ids
 pub mod Lines
+pub mod Outcomes
+pub mod Plans
+pub mod Playings
+pub mod Quiet
 pub mod Readings

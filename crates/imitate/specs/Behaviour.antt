@@ -53,7 +53,7 @@ module _ (files files' : FilesSeen) (out out' err err' : SinkSeen) (words : List
 
   -- Why it did not end: each status has its cause in this call.
   pub record IsCaused : Type 0 where
-    pub words : code ≡ 2 → asked_of words ≡ None
+    pub usage : code ≡ 2 → asked_of words ≡ None
     pub no_form : asked_of words ≡ None → (code ≡ 2) ⊎ (code ≡ 1)
     pub unreadable : code ≡ 3 → Rose files.load_faults files'.load_faults
     pub too_long : code ≡ 4 → Rose files.long_loads files'.long_loads

@@ -109,7 +109,7 @@ module _ (files files' : FilesSeen) (out out' : SinkSeen) where
   pub record Fails (asked : Asked) (why : Refusal) : Type 0 where
     pub cause : IsCausedBy asked why
     pub output : LeavesOutput asked why
-    pub files : LeavesFiles asked why
+    pub left : LeavesFiles asked why
 
   -- one command
   pub record Answers (asked : Asked) (result : Result Ended Refusal) : Type 0 where

@@ -1,6 +1,6 @@
 -- What the bytes of a graph, a job and a schedule say, or why one of them is refused.
-use Rattle.std.specs.Prelude.{ℕ, ◌≤◌, IsTrue, List, length, Option, Some, None, Result, Ok, Err, if◌then◌else◌}
-use Rattle.std.specs.List.{All, list_all}
+use Rattle.std.specs.Prelude.{ℕ, ◌<◌, ◌≤◌, ◌^◌, IsTrue, List, length, Option, Some, None, Result, Ok, Err, if◌then◌else◌}
+use Rattle.std.specs.List.{All, AllByRecursion as Each, list_all}
 use Rattle.gr_base.specs.declared.records.Edge.{Edge}
 use Rattle.gr_edges.specs.declared.fault.GraphFault.{GraphFault}
 use Rattle.gr_edges.specs.Reading as edges
@@ -82,8 +82,10 @@ task_in work = record { job = values_of work.job; edges = work.graph.edges; vert
 abbrev pub plan_in : Accepted → Plan
 plan_in a = record { task = task_in a.work; lines = a.lines }
 
--- what a cluster needs of what was read: graph and schedule within their limits, and lines that it plays, for its places
+-- what a cluster needs of what was read: ids of 32 bits, graph and schedule within their limits, and lines that it plays,
+-- for its places
 pub record IsPlayable (a : Accepted) : Type 0 where
+  pub ids_fit : Each (λ v. v < 2 ^ 32) (ids a.work.graph.vertices)
   pub few_edges : length a.work.graph.edges ≤ edges.max_edges
   pub few_vertices : length a.work.graph.vertices ≤ edges.max_vertices
   pub few_lines : length a.lines ≤ sched.max_events

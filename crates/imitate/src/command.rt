@@ -1,5 +1,5 @@
 ghost use Rattle.std.specs.Prelude.{◌≡◌, map, None, Some, IfSome, IsNone};
-ghost use Rattle.imitate.specs.Words.{plain_of, run_of, asked_of, asked_by, named, names_in};
+ghost use Rattle.imitate.specs.Words.{plain_of, run_of, asked_of, asked_by, named, names_in, nobody};
 
 /// The names of the files of a command. `plain` names no schedule and no trace.
 #[derive(Clone, Copy)]
@@ -8,6 +8,20 @@ pub struct Names<'a> {
     pub job: &'a str,
     pub schedule: &'a str,
     pub trace: &'a str,
+}
+
+impl<'a> Names<'a> {
+    /// No names.
+    pub fn none() -> Names<'a>
+        ensures { named result ≡ nobody }
+    {
+        Names {
+            graph: "",
+            job: "",
+            schedule: "",
+            trace: "",
+        }
+    }
 }
 
 /// What the words ask for.

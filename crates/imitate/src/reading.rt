@@ -1,5 +1,6 @@
-ghost use Rattle.std.specs.Prelude.{◌≡◌, ◌≤◌, ◌⊎◌, Ok, Err, length, IfOk, IfErr};
-ghost use Rattle.std.specs.List.{list_all};
+ghost use Rattle.std.specs.Prelude.{◌≡◌, ◌<◌, ◌≤◌, ◌^◌, ◌⊎◌, Ok, Err, length, IfOk, IfErr};
+ghost use Rattle.std.specs.List.{list_all, AllByRecursion as Each};
+ghost use Rattle.gr_edges.specs.Vertices.{ids};
 ghost use Rattle.gr_law_runs.specs.Undisturbed.{is_plain_line};
 ghost use Rattle.imitate.specs.Reading.{task_of, plan_of, task_in, plan_in, IsPlayable};
 
@@ -28,6 +29,7 @@ pub struct Accepted {
 pub fn read_work(alloc: Global, graph: &[u8], job: &[u8]) -> Result<Work, Refusal>
     requires { length graph.now ≤ 268435456 }
     ensures read { IfOk result (λ work. task_of graph.now job.now ≡ Ok (task_in work)) }
+    ensures ids_fit { IfOk result (λ work. Each (λ v. v < 2 ^ 32) (ids work.graph.vertices)) }
     ensures few_edges { IfOk result (λ work. length work.graph.edges ≤ 4194304) }
     ensures few_vertices { IfOk result (λ work. length work.graph.vertices ≤ 1048576) }
     ensures refused { IfErr result (λ why. (why ≡ Refusal.OutOfMemory) ⊎ (task_of graph.now job.now ≡ Err why)) }

@@ -23,6 +23,7 @@ pub returns-then-are_built-clause-playable : goal.returns-then-are_built-clause-
 returns-then-are_built-clause-playable c =
     let built : list_all is_plain_line c.in-Ok-read_schedule.lines ≡ true = ap (list_all is_plain_line) (sym c.as_slice.ensures) ∙ sym c.if-are_built.ensures in
     record {
+      ids_fit = c.in-Ok.ensures.ids_fit;
       few_edges = c.in-Ok.ensures.few_edges;
       few_vertices = c.in-Ok.ensures.few_vertices;
       few_lines = c.in-Ok-read_schedule.ensures.few;

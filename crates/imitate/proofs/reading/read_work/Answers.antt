@@ -1,4 +1,5 @@
 use Rattle.gr_job.specs.Job.{values_of}
+use Rattle.imitate.proofs.Ids.{ids-fit}
 use Rattle.imitate.proofs.Readings.{task-job_refused, task-graph_refused, task-read}
 use Rattle.imitate.proofs.reading.read_work.Goals as goal
 
@@ -13,3 +14,6 @@ pub returns-clause-read : goal.returns-clause-read
 returns-clause-read c =
     task-read c.args.graph.now c.args.job.now (values_of c.in-Ok.job) c.in-Ok.ensures.ok c.in-Ok-read_graph.graph.edges c.in-Ok-read_graph.graph.vertices
     c.in-Ok-read_graph.ensures.accepted c.in-Ok-read_graph.ensures.edges c.in-Ok-read_graph.ensures.vertices
+
+pub returns-clause-ids_fit : goal.returns-clause-ids_fit
+returns-clause-ids_fit c = rw c.in-Ok-read_graph.ensures.vertices (ids-fit c.in-Ok.job.undirected c.args.graph.now)
