@@ -99,15 +99,6 @@ module _ (a b d : FilesSeen) (Q : IsQuiet a b) (names : FileNames) (plan : Plan)
     part-shown part = some-then a.told (λ t. plan_to t names ≡ Ok plan) (λ t. (x : List ℕ) × IsText t (Asked.Run names) x × GainsPart out out' x) accepted
         (λ t is. (text, (plan, played.steps, record { accepted = is; whole = played.whole }, played.told), part))
 
-    pub output-fails : GainsPart out out' text → Rose out.faults out'.faults → Fails a d out out' (Asked.Run names) refusal.Output
-    output-fails part rose = record {
-      cause = rose;
-      output = part-shown part;
-      left = some-then a.told (λ t. plan_to t names ≡ Ok plan)
-          (λ t. (p : Plan) × (n : ℕ) × IsRun t names p n × Traces a d names.trace (run_trace p n)) accepted
-          (λ t is. (plan, played.steps, record { accepted = is; whole = played.whole }, quiet-traces a b Q d names.trace (run_trace plan played.steps) played.traced));
-    }
-
     pub memory-fails : GainsPart out out' text → IfSome d.told (λ u. is_some u.begun ≡ d.is_begun) → Fails a d out out' (Asked.Run names) refusal.OutOfMemory
     memory-fails part begun = record {
       cause = tt;

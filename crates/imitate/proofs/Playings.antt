@@ -1,6 +1,6 @@
 -- A run that was played: the cluster before it, the result of one that is done, and how one leaves its trace that is not played to
 -- its end.
-use Rattle.std.proofs.Common.{◌≡◌, ◌≤◌, ◌<◌, ◌^◌, ◌⊎◌, ◌∙◌, ℕ, List, length, Option, Some, None, refl, sym, ap, subst, inl, inr, lit<, lit≤}
+use Rattle.std.proofs.Common.{◌≡◌, ◌≤◌, ◌<◌, ◌^◌, ◌⊎◌, ◌∙◌, ℕ, List, length, Option, Some, None, Result, refl, sym, ap, subst, inl, inr, lit<, lit≤}
 use Rattle.std.specs.Prelude.{IsTrue, IfSome, IsSome, is_some}
 use Rattle.std.specs.List.{All, AllByRecursion as Each}
 use Rattle.std.proofs.lemmas.List.{length-map}
@@ -16,6 +16,7 @@ use Rattle.gr_edges.specs.declared.graph.Graph.{Graph}
 use Rattle.gr_edges.specs.declared.graph.VertexInfo.{VertexInfo}
 use Rattle.gr_edges.specs.Vertices.{id_of, ids}
 use Rattle.gr_job.specs.declared.job.Job.{Job}
+use Rattle.gr_job.specs.declared.job.ProgramChoice.{ProgramChoice}
 use Rattle.gr_sched.specs.declared.event.Line.{Line}
 use Rattle.gr_view.specs.declared.coordinator.Mode.{Mode}
 use Rattle.gr_view.specs.declared.coordinator.Mode.TheVariants as mode
@@ -33,9 +34,10 @@ use Rattle.imitate.specs.declared.ended.Ended.{Ended}
 use Rattle.imitate.specs.declared.ended.Ended.TheVariants as ended
 use Rattle.imitate.specs.declared.refusal.Refusal.{Refusal}
 use Rattle.imitate.specs.declared.refusal.Refusal.TheVariants as refusal
-use Rattle.imitate.specs.Chosen.{Chosen}
+use Rattle.imitate.specs.declared.told.Told.{Told}
+use Rattle.imitate.specs.Chosen.{Chosen, chosen_of}
 use Rattle.imitate.specs.Running.{ended_by, trace_after}
-use Rattle.imitate.specs.Playing.{IsPartTraced, IsUnplayed, IsTold}
+use Rattle.imitate.specs.Playing.{IsPartTraced, IsUnplayed, PlaysRun, IsTold}
 use Rattle.imitate.proofs.Quiet.{traces-part}
 
 -- a cluster as it is at load, as far as its counts go
@@ -128,3 +130,11 @@ module _ (files files' : FilesSeen) (trace : List ℕ) (c : Chosen) (s : Positio
         | inl e ↦ subst (IsUnplayed files files' trace c s) (sym e) (inr traced)
         | inr t ↦ subst (IsUnplayed files files' trace c s) (sym t.0) (t.1, traced)
       ]
+
+-- the run of a program of a job, which may be told in two ways
+module _ (files files' : FilesSeen) (trace : List ℕ) (s : Setting) (es : List Edge) (vs : List ℕ) (ls : List Line) (result : Result Told Refusal) where
+  abbrev pub ChosenRun : ProgramChoice → Type 0
+  ChosenRun p = PlaysRun files files' trace (chosen_of p) (start (load (chosen_of p).program s es vs) ls) result
+
+  pub chosen-run : (p q : ProgramChoice) → p ≡ q → ChosenRun q → ChosenRun p
+  chosen-run p q e h = subst ChosenRun (sym e) h
