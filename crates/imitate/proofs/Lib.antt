@@ -1,3 +1,4 @@
+pub mod Behaviours
 pub mod Ids
 pub mod Lines
 pub mod Outcomes
@@ -5,3 +6,4 @@ pub mod Plans
 pub mod Playings
 pub mod Quiet
 pub mod Readings
+pub mod Runs

@@ -30,6 +30,11 @@ pub some-always : (o : Option FilesTold) (P : FilesTold → Type 0) → ((t : Fi
 some-always None P f = tt
 some-always (Some t) P f = f t
 
+-- what is so where something is told needs to be shown only there
+pub some-flat : (o : Option FilesTold) (P R : FilesTold → Type 0) → IfSome o P → ((t : FilesTold) → P t → IfSome o R) → IfSome o R
+some-flat None P R h f = tt
+some-flat (Some t) P R h f = f t h
+
 module _ (a b : FilesSeen) (Q : IsQuiet a b) where
   -- what is told after a quiet load was told before it
   pub quiet-some : (P : FilesTold → Type 0) → IfSome b.told P → IfSome a.told P

@@ -4,7 +4,7 @@ use Rattle.imitate.specs.Words.{FileNames, named}
 use Rattle.imitate.specs.Reading.{plan_of, plan_in}
 use Rattle.imitate.specs.Outcome.{plan_to}
 use Rattle.imitate.proofs.Quiet.{some-then}
-use Rattle.imitate.proofs.Plans.{plan-fails, unplayed-fails, played-ends, played-shown, output-fails, memory-fails}
+use Rattle.imitate.proofs.Plans.{plan-fails, unplayed-fails, played-ends, played-shown, memory-fails}
 use Rattle.imitate.proofs.run.run.Goals as goal
 
 pub returns-in-Err-read_plan : goal.returns-in-Err-read_plan
