@@ -28,6 +28,7 @@ use Rattle.gr_agree.specs.FirstTruth.{IsGraph, IsSetting}
 use Rattle.gr_law_runs.specs.Undisturbed.{is_plain_line}
 use Rattle.gr_law_runs.proofs.Schedules.{schedule-result}
 use Rattle.gr_core.specs.Loaded.{setting_of}
+use Rattle.gr_core.specs.Tables.{Tables}
 use Rattle.gr_play.specs.Playing.{start, Plays}
 use Rattle.gr_play.specs.Tracing.{Traces, TracesPart}
 use Rattle.imitate.specs.declared.ended.Ended.{Ended}
@@ -53,8 +54,8 @@ module _ {V A : Type 0} (P : Program V A) (s : Setting) (es : List Edge) (vs : L
   unfolding load
   load-fresh = record { places_are = refl; flight = lit≤ tt; serial = lit< tt; epoch = lit< tt; commits = lit< tt }
 
-  pub loaded-fresh : (c : Cluster V A) → c ≡ load P s es vs → IsFresh c s.places
-  loaded-fresh c is = subst (λ (k : Cluster V A). IsFresh k s.places) (sym is) load-fresh
+  pub loaded-fresh : {R : Type 0} (p : R) (t : Tables R V A) → t ≡ record { program = p; cluster = load P s es vs } → IsFresh t.cluster s.places
+  loaded-fresh {R} p t is = subst (λ (u : Tables R V A). IsFresh u.cluster s.places) (sym is) load-fresh
 
 -- a job and a graph are within the ranges that runs are about
 pub setting-is : (job : Job) → job.theta < 2 ^ 32 → IsSetting (setting_of job)

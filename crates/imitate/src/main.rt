@@ -52,3 +52,6 @@ fn status(rt: &HostRuntime, arguments: &[String]) -> u8 {
     let mut err = RealSink::new(rt.stderr());
     imitate(alloc, &words, &mut files, &mut out, &mut err)
 }
+
+#[cfg(test)]
+mod tests;

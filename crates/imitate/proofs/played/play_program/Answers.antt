@@ -1,37 +1,37 @@
-use Rattle.std.proofs.Common.{◌≡◌, ◌<◌, ◌^◌, ◌⊎◌, ap, arith, inl, inr}
+use Rattle.std.proofs.Common.{◌≡◌, ◌<◌, ◌^◌, arith, inl, inr}
 use Rattle.gr_edges.specs.Vertices.{ids}
 use Rattle.gr_core.specs.Loaded.{setting_of}
 use Rattle.gr_cluster.specs.Load.{load}
 use Rattle.gr_play.specs.Playing.{start, told_by}
 use Rattle.imitate.specs.Chosen.{chosen}
-use Rattle.imitate.proofs.Playings.{IsFresh, loaded-fresh, setting-is, graph-is, done-text, is-unplayed}
+use Rattle.imitate.proofs.Playings.{loaded-fresh, setting-is, graph-is, done-text, is-unplayed}
 use Rattle.imitate.proofs.played.play_program.Goals as goal
 
 pub play-ending-requires-clause-places : goal.play-ending-requires-clause-places
 play-ending-requires-clause-places g c =
     let work = c.args.accepted.now.work in
-    let fresh = loaded-fresh (g.P.VertexProgram.program_of c.args.program) (setting_of work.job) work.graph.edges (ids work.graph.vertices) c.in-Ok.cluster.cluster (ap (λ x. x.cluster) c.in-Ok.ensures) in
+    let fresh = loaded-fresh (g.P.VertexProgram.program_of c.args.program) (setting_of work.job) work.graph.edges (ids work.graph.vertices) c.args.program c.in-Ok.cluster c.in-Ok.ensures in
     rw (fresh.places_are, c.as_slice.ensures) c.requires.placed
 
 pub play-ending-requires-clause-flight : goal.play-ending-requires-clause-flight
 play-ending-requires-clause-flight g c =
     let work = c.args.accepted.now.work in
-    (loaded-fresh (g.P.VertexProgram.program_of c.args.program) (setting_of work.job) work.graph.edges (ids work.graph.vertices) c.in-Ok.cluster.cluster (ap (λ x. x.cluster) c.in-Ok.ensures)).flight
+    (loaded-fresh (g.P.VertexProgram.program_of c.args.program) (setting_of work.job) work.graph.edges (ids work.graph.vertices) c.args.program c.in-Ok.cluster c.in-Ok.ensures).flight
 
 pub play-ending-requires-clause-serial : goal.play-ending-requires-clause-serial
 play-ending-requires-clause-serial g c =
     let work = c.args.accepted.now.work in
-    (loaded-fresh (g.P.VertexProgram.program_of c.args.program) (setting_of work.job) work.graph.edges (ids work.graph.vertices) c.in-Ok.cluster.cluster (ap (λ x. x.cluster) c.in-Ok.ensures)).serial
+    (loaded-fresh (g.P.VertexProgram.program_of c.args.program) (setting_of work.job) work.graph.edges (ids work.graph.vertices) c.args.program c.in-Ok.cluster c.in-Ok.ensures).serial
 
 pub play-ending-requires-clause-epoch : goal.play-ending-requires-clause-epoch
 play-ending-requires-clause-epoch g c =
     let work = c.args.accepted.now.work in
-    (loaded-fresh (g.P.VertexProgram.program_of c.args.program) (setting_of work.job) work.graph.edges (ids work.graph.vertices) c.in-Ok.cluster.cluster (ap (λ x. x.cluster) c.in-Ok.ensures)).epoch
+    (loaded-fresh (g.P.VertexProgram.program_of c.args.program) (setting_of work.job) work.graph.edges (ids work.graph.vertices) c.args.program c.in-Ok.cluster c.in-Ok.ensures).epoch
 
 pub play-ending-requires-clause-commits : goal.play-ending-requires-clause-commits
 play-ending-requires-clause-commits g c =
     let work = c.args.accepted.now.work in
-    (loaded-fresh (g.P.VertexProgram.program_of c.args.program) (setting_of work.job) work.graph.edges (ids work.graph.vertices) c.in-Ok.cluster.cluster (ap (λ x. x.cluster) c.in-Ok.ensures)).commits
+    (loaded-fresh (g.P.VertexProgram.program_of c.args.program) (setting_of work.job) work.graph.edges (ids work.graph.vertices) c.args.program c.in-Ok.cluster c.in-Ok.ensures).commits
 
 pub returns-in-Ok-tell-clause-done : goal.returns-in-Ok-tell-clause-done
 returns-in-Ok-tell-clause-done g c =
