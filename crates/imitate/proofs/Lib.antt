@@ -1,3 +1,9 @@
-pub mod Causes
-pub mod Explaining
-pub mod Replies
+pub mod Behaviours
+pub mod Ids
+pub mod Lines
+pub mod Outcomes
+pub mod Plans
+pub mod Playings
+pub mod Quiet
+pub mod Readings
+pub mod Runs

@@ -1,6 +1,10 @@
+pub mod Behaviour
 pub mod Chosen
+pub mod Contents
 pub mod Loading
 pub mod Outcome
+pub mod Playing
+pub mod Reading
 pub mod Refusals
-pub mod Reply
+pub mod Running
 pub mod Words

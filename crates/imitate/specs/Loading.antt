@@ -5,27 +5,31 @@ use Rattle.gr_outside.specs.Files.{FilesSeen, bytes_of, longest}
 use Rattle.imitate.specs.declared.refusal.Input.{Input}
 use Rattle.imitate.specs.declared.refusal.Refusal.{Refusal}
 use Rattle.imitate.specs.declared.refusal.Refusal.TheVariants as refusal
-use Rattle.imitate.specs.Outcome.{KeepsFiles, content}
+use Rattle.imitate.specs.Words.{FileNames}
+use Rattle.imitate.specs.Refusals.{name_of}
+use Rattle.imitate.specs.Contents.{KeepsFiles, content}
 
--- why an input was not loaded
-abbrev pub IsLoadFault : FilesSeen → FilesSeen → List ℕ → Input → Refusal → Type 0
-IsLoadFault before after name input refusal.OutOfMemory = Unit {0}
-IsLoadFault before after name input (refusal.Unreadable which) =
-    (which ≡ input) × Rose before.load_faults after.load_faults × IfSome before.told (λ t. IfSome after.told (λ u. u.failed ≡ Some name))
-IsLoadFault before after name input (refusal.TooLong which) =
-    (which ≡ input) × Rose before.long_loads after.long_loads × IfSome before.told (λ t. longest < length (content t name))
-IsLoadFault before after name input other = ⊥
+-- why an input was not loaded: memory ran out; a load failed in this call, where told it is the last that did; a load took
+-- too many bytes in this call, where told the file has too many
+abbrev pub IsLoadCause : FilesSeen → FilesSeen → FileNames → Refusal → Type 0
+IsLoadCause before after names refusal.OutOfMemory = Unit {0}
+IsLoadCause before after names (refusal.Unreadable input) =
+    Rose before.load_faults after.load_faults × IfSome before.told (λ t. IfSome after.told (λ u. u.failed ≡ Some (name_of names input)))
+IsLoadCause before after names (refusal.TooLong input) =
+    Rose before.long_loads after.long_loads × IfSome before.told (λ t. longest < length (content t (name_of names input)))
+IsLoadCause before after names other = ⊥
 
 -- nothing was counted, and all that is told is as before
 pub record IsQuiet (before after : FilesSeen) : Type 0 where
   pub load_faults : after.load_faults ≡ before.load_faults
   pub long_loads : after.long_loads ≡ before.long_loads
+  pub write_faults : after.write_faults ≡ before.write_faults
   pub told : IfSome before.told (λ t. after.told ≡ Some t)
 
 -- one load: the whole file, of no more bytes than one may have, or a cause
-pub record LoadsInput {A : Type 0} (bytes_in : A → List ℕ) (before after : FilesSeen) (name : List ℕ) (input : Input) (result : Result A Refusal) : Type 0 where
+pub record LoadsInput {A : Type 0} (bytes_in : A → List ℕ) (before after : FilesSeen) (names : FileNames) (input : Input) (result : Result A Refusal) : Type 0 where
   pub small : IfOk result (λ v. length (bytes_in v) ≤ longest)
-  pub whole : IfOk result (λ v. IfSome before.told (λ t. content t name ≡ bytes_in v))
+  pub whole : IfOk result (λ v. IfSome before.told (λ t. content t (name_of names input) ≡ bytes_in v))
   pub quiet : OnOk result (IsQuiet before after)
-  pub cause : IfErr result (IsLoadFault before after name input)
+  pub cause : IfErr result (IsLoadCause before after names)
   pub kept : KeepsFiles before after

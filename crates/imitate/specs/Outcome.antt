@@ -1,80 +1,118 @@
--- What a call of `plain` leaves behind: its files, its output, its messages and its status.
-use Rattle.std.specs.Prelude.{◌≡◌, ◌≢◌, ◌<◌, ◌⊎◌, ℕ, List, [], length, take, Option, Some, None, Result, Ok, Err, OnOk, IfErr, IfSome, IsSomeAnd, unwrap_or}
+-- What a command comes to over the files as they are: a result, an ending, or a refusal.
+use Rattle.std.specs.Prelude.{◌≡◌, ◌<◌, ◌⊎◌, ℕ, List, [], ◌∷◌, ◌++◌, length, Option, Some, None, Result, Ok, Err, IfOk, IfErr, IfSome}
 use Rattle.gr_outside.specs.Causes.{Rose}
-use Rattle.gr_outside.specs.Files.{FilesSeen, FilesTold, bytes_of, longest}
+use Rattle.gr_outside.specs.Files.{FilesSeen, FilesTold}
 use Rattle.gr_outside.specs.Sink.{SinkSeen, Gains}
-use Rattle.imitate.specs.declared.refusal.Input.{Input}
+use Rattle.gr_sched.specs.declared.event.Line.{Line}
+use Rattle.gr_sched.specs.declared.event.Line.TheVariants as line
+use Rattle.gr_play.specs.Tracing.{Traces, TracesPart}
+use Rattle.imitate.specs.declared.ended.Ended.{Ended}
+use Rattle.imitate.specs.declared.ended.Ended.TheVariants as ended
 use Rattle.imitate.specs.declared.refusal.Refusal.{Refusal}
 use Rattle.imitate.specs.declared.refusal.Refusal.TheVariants as refusal
-use Rattle.imitate.specs.Words.{PlainNames, plain_of}
-use Rattle.imitate.specs.Refusals.{name_of, line_of, status_of}
-use Rattle.imitate.specs.Reply.{reply_of}
+use Rattle.imitate.specs.Words.{FileNames, Asked, names_in}
+use Rattle.imitate.specs.Reading.{Plan, reply_of, plan_of}
+use Rattle.imitate.specs.Running.{IsWholeAfter, run_trace, run_end, run_text}
+use Rattle.imitate.specs.Contents.{content, KeepsFiles, GainsPart}
+use Rattle.imitate.specs.Loading.{IsLoadCause}
 
--- the bytes of a file, where there is one
-abbrev pub content : FilesTold → List ℕ → List ℕ
-content t name = unwrap_or (bytes_of t.files name) []
-
--- the reply to the files of these names, as they stand
-abbrev pub reply_to : FilesTold → PlainNames → Result (List ℕ) Refusal
+-- the result text that the files of these names have as they stand, or why they are refused
+abbrev pub reply_to : FilesTold → FileNames → Result (List ℕ) Refusal
 reply_to t names = reply_of (content t names.graph) (content t names.job)
 
--- where files told their content, they go on, and every file is as before
-abbrev pub KeepsFiles : FilesSeen → FilesSeen → Type 0
-KeepsFiles before after = IfSome before.told (λ t. IsSomeAnd after.told (λ u. u.files ≡ t.files))
+-- what they say with their schedule
+abbrev pub plan_to : FilesTold → FileNames → Result Plan Refusal
+plan_to t names = plan_of (content t names.graph) (content t names.job) (content t names.schedule)
 
--- the names that words give, or none
-abbrev pub names_of : List (List ℕ) → PlainNames
-names_of words = unwrap_or (plain_of words) (record { graph = []; job = [] })
+-- they are accepted, and their run has no further step after so many
+pub record IsRun (t : FilesTold) (names : FileNames) (plan : Plan) (steps : ℕ) : Type 0 where
+  pub accepted : plan_to t names ≡ Ok plan
+  pub whole : IsWholeAfter plan steps
 
--- a sink gained a first part of a text
-abbrev pub GainsPart : SinkSeen → SinkSeen → List ℕ → Type 0
-GainsPart before after text = (n : ℕ) × Gains before after (take n text)
+-- the files that are asked for are refused
+abbrev pub IsRefused : FilesTold → Asked → Refusal → Type 0
+IsRefused t (Asked.Plain names) why = reply_to t names ≡ Err why
+IsRefused t (Asked.Run names) why = plan_to t names ≡ Err why
+
+-- what is asked for ends so: the rounds of the graph that is not cut are always done
+abbrev pub IsEnding : FilesTold → Asked → Ended → Type 0
+IsEnding t (Asked.Plain names) end = (end ≡ ended.Done) × (text : List ℕ) × (reply_to t names ≡ Ok text)
+IsEnding t (Asked.Run names) end = (plan : Plan) × (steps : ℕ) × IsRun t names plan steps × (run_end plan steps ≡ end)
+
+-- it prints this text
+abbrev pub IsText : FilesTold → Asked → List ℕ → Type 0
+IsText t (Asked.Plain names) text = reply_to t names ≡ Ok text
+IsText t (Asked.Run names) text = (plan : Plan) × (steps : ℕ) × IsRun t names plan steps × (text ≡ run_text plan steps)
+
+-- it plays a schedule whose last line is `finish`
+abbrev pub PlaysFinish : FilesTold → Asked → Type 0
+PlaysFinish t (Asked.Plain names) = ⊥
+PlaysFinish t (Asked.Run names) = (plan : Plan) × (before : List Line) × (plan_to t names ≡ Ok plan) × (plan.lines ≡ before ++ line.Finish ∷ [])
 
 -- the output gained the result text of the files, and nothing else
-abbrev pub Shows : FilesSeen → SinkSeen → SinkSeen → PlainNames → Type 0
+abbrev pub Shows : FilesSeen → SinkSeen → SinkSeen → FileNames → Type 0
 Shows files before after names = IfSome files.told (λ t. (text : List ℕ) × (reply_to t names ≡ Ok text) × Gains before after text)
 
--- the output gained a first part of it
-abbrev pub ShowsPart : FilesSeen → SinkSeen → SinkSeen → PlainNames → Type 0
-ShowsPart files before after names = IfSome files.told (λ t. (text : List ℕ) × (reply_to t names ≡ Ok text) × GainsPart before after text)
+-- the output gained a first part of what is printed
+abbrev pub ShowsPart : FilesSeen → SinkSeen → SinkSeen → Asked → Type 0
+ShowsPart files before after asked = IfSome files.told (λ t. (text : List ℕ) × IsText t asked text × GainsPart before after text)
 
-module _ (files files' : FilesSeen) (out out' : SinkSeen) (names : PlainNames) where
-  -- why there is no result: memory ran out; a load failed in this call, where told it is the last that did; a load took
-  -- too many bytes in this call, where told the file has too many; the graph or the job is refused; the output failed in this call
-  abbrev pub IsCausedBy : Refusal → Type 0
-  IsCausedBy refusal.OutOfMemory = Unit {0}
-  IsCausedBy refusal.Usage = ⊥
-  IsCausedBy (refusal.Unreadable input) =
-      Rose files.load_faults files'.load_faults × IfSome files.told (λ t. IfSome files'.told (λ u. u.failed ≡ Some (name_of names input)))
-  IsCausedBy (refusal.TooLong input) =
-      Rose files.long_loads files'.long_loads × IfSome files.told (λ t. longest < length (content t (name_of names input)))
-  IsCausedBy (refusal.Graph fault) = IfSome files.told (λ t. reply_to t names ≡ Err (refusal.Graph fault))
-  IsCausedBy (refusal.Job fault) = IfSome files.told (λ t. reply_to t names ≡ Err (refusal.Job fault))
-  IsCausedBy refusal.Output = Rose out.faults out'.faults
+-- the trace file has the trace of the whole run
+abbrev pub TracesRun : FilesSeen → FilesSeen → FileNames → Type 0
+TracesRun before after names =
+    IfSome before.told (λ t. (plan : Plan) × (steps : ℕ) × IsRun t names plan steps × Traces before after names.trace (run_trace plan steps))
 
-  -- what is on the output then: nothing further, or a first part of the result text where memory or the output failed
-  abbrev pub LeavesOutput : Refusal → Type 0
-  LeavesOutput refusal.OutOfMemory = (out' ≡ out) ⊎ ShowsPart files out out' names
-  LeavesOutput refusal.Output = ShowsPart files out out' names
-  LeavesOutput other = out' ≡ out
+-- the trace file has a first part of the trace of some first steps, once it is begun
+abbrev pub TracesSome : FilesSeen → FilesSeen → FileNames → Type 0
+TracesSome before after names =
+    IfSome before.told (λ t. (plan : Plan) × (steps : ℕ) × (plan_to t names ≡ Ok plan) × TracesPart before after names.trace (run_trace plan steps))
 
-  -- one call of `plain`
-  pub record RunsPlain (result : Result (Unit {0}) Refusal) : Type 0 where
-    pub shown : OnOk result (Shows files out out' names)
-    pub cause : IfErr result IsCausedBy
-    pub output : IfErr result LeavesOutput
-    pub kept : KeepsFiles files files'
+-- A run that ended so: after so many steps it has no further one, its text is on the output, and its trace in the trace file.
+pub record Ends (files files' : FilesSeen) (out out' : SinkSeen) (names : FileNames) (end : Ended) (t : FilesTold) : Type 0 where
+  pub plan : Plan
+  pub steps : ℕ
+  pub run : IsRun t names plan steps
+  pub ended : run_end plan steps ≡ end
+  pub printed : Gains out out' (run_text plan steps)
+  pub traced : Traces files files' names.trace (run_trace plan steps)
 
--- why a call ended without its result: the words are of no form, or the call of `plain` says
-abbrev pub IsExplainedBy : FilesSeen → FilesSeen → SinkSeen → SinkSeen → List (List ℕ) → Refusal → Type 0
-IsExplainedBy files files' out out' words refusal.Usage = plain_of words ≡ None
-IsExplainedBy files files' out out' words other = IsCausedBy files files' out out' (names_of words) other
+module _ (files files' : FilesSeen) (out out' : SinkSeen) where
+  -- what an ending leaves: `plain` is done and changes no file
+  abbrev pub LeavesEnd : Asked → Ended → Type 0
+  LeavesEnd (Asked.Plain names) end = (end ≡ ended.Done) × KeepsFiles files files'
+  LeavesEnd (Asked.Run names) end = IfSome files.told (Ends files files' out out' names end)
 
--- A refusal, its cause, what is on the output, and what is said of it: its line, wholly but where the messages failed in this
--- call. Where memory runs out while it is said the status is 1.
-pub record Explains (files files' : FilesSeen) (out out' err err' : SinkSeen) (words : List (List ℕ)) (code : ℕ) (why : Refusal) : Type 0 where
-  pub status : (code ≡ status_of why) ⊎ (code ≡ 1)
-  pub cause : IsExplainedBy files files' out out' words why
-  pub output : LeavesOutput files files' out out' (names_of words) why
-  pub part : GainsPart err err' (line_of (names_of words) why)
-  pub whole : code ≢ 1 → Gains err err' (line_of (names_of words) why) ⊎ Rose err.faults err'.faults
+  -- why there is no ending: memory ran out; a load, the trace or the output failed in this call; or the files are refused
+  abbrev pub IsCausedBy : Asked → Refusal → Type 0
+  IsCausedBy asked refusal.OutOfMemory = Unit {0}
+  IsCausedBy asked refusal.Usage = ⊥
+  IsCausedBy asked (refusal.Unreadable input) = IsLoadCause files files' (names_in asked) (refusal.Unreadable input)
+  IsCausedBy asked (refusal.TooLong input) = IsLoadCause files files' (names_in asked) (refusal.TooLong input)
+  IsCausedBy asked refusal.Trace = Rose files.write_faults files'.write_faults
+  IsCausedBy asked refusal.Output = Rose out.faults out'.faults
+  IsCausedBy asked other = IfSome files.told (λ t. IsRefused t asked other)
+
+  -- what is on the output then: nothing further, or a first part of the text where memory or the output failed
+  abbrev pub LeavesOutput : Asked → Refusal → Type 0
+  LeavesOutput asked refusal.OutOfMemory = (out' ≡ out) ⊎ ShowsPart files out out' asked
+  LeavesOutput asked refusal.Output = ShowsPart files out out' asked
+  LeavesOutput asked other = out' ≡ out
+
+  -- what is in the files then: `run` may have begun its trace where memory, the trace or the output failed
+  abbrev pub LeavesFiles : Asked → Refusal → Type 0
+  LeavesFiles (Asked.Run names) refusal.OutOfMemory = KeepsFiles files files' ⊎ TracesSome files files' names
+  LeavesFiles (Asked.Run names) refusal.Trace = TracesSome files files' names
+  LeavesFiles (Asked.Run names) refusal.Output = TracesRun files files' names
+  LeavesFiles asked other = KeepsFiles files files'
+
+  -- no ending, and its cause
+  pub record Fails (asked : Asked) (why : Refusal) : Type 0 where
+    pub cause : IsCausedBy asked why
+    pub output : LeavesOutput asked why
+    pub left : LeavesFiles asked why
+
+  -- one command
+  pub record Answers (asked : Asked) (result : Result Ended Refusal) : Type 0 where
+    pub shown : IfOk result (λ end. end ≡ ended.Done → Shows files out out' (names_in asked))
+    pub ends : IfOk result (LeavesEnd asked)
+    pub fails : IfErr result (Fails asked)

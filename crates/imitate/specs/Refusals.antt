@@ -4,13 +4,15 @@ use Rattle.gr_edges.specs.declared.fault.GraphFault.{GraphFault}
 use Rattle.gr_edges.specs.declared.fault.GraphFault.TheVariants as graph
 use Rattle.gr_job.specs.declared.fault.JobFault.{JobFault}
 use Rattle.gr_job.specs.declared.fault.JobFault.TheVariants as job
+use Rattle.gr_sched.specs.declared.fault.SchedFault.{SchedFault}
+use Rattle.gr_sched.specs.declared.fault.SchedFault.TheVariants as schedule
 use Rattle.imitate.specs.declared.refusal.Input.{Input}
 use Rattle.imitate.specs.declared.refusal.Input.TheVariants as input
 use Rattle.imitate.specs.declared.refusal.Refusal.{Refusal}
 use Rattle.imitate.specs.declared.refusal.Refusal.TheVariants as refusal
-use Rattle.imitate.specs.Words.{PlainNames}
+use Rattle.imitate.specs.Words.{FileNames}
 
--- how a fault of the graph, or of the job, is refused
+-- how a fault of the graph, of the job or of the schedule is refused
 abbrev pub graph_refusal : GraphFault → Refusal
 graph_refusal graph.OutOfMemory = refusal.OutOfMemory
 graph_refusal fault = refusal.Graph fault
@@ -19,6 +21,10 @@ abbrev pub job_refusal : JobFault → Refusal
 job_refusal job.OutOfMemory = refusal.OutOfMemory
 job_refusal fault = refusal.Job fault
 
+abbrev pub schedule_refusal : SchedFault → Refusal
+schedule_refusal schedule.OutOfMemory = refusal.OutOfMemory
+schedule_refusal fault = refusal.Schedule fault
+
 abbrev pub status_of : Refusal → ℕ
 status_of refusal.OutOfMemory = 1
 status_of refusal.Usage = 2
@@ -26,6 +32,9 @@ status_of (refusal.Unreadable input) = 3
 status_of (refusal.TooLong input) = 4
 status_of (refusal.Graph fault) = 5
 status_of (refusal.Job fault) = 6
+status_of (refusal.Schedule fault) = 7
+status_of refusal.NotBuilt = 7
+status_of refusal.Trace = 10
 status_of refusal.Output = 11
 
 abbrev pub memory_text : List ℕ
@@ -54,20 +63,34 @@ job_text (job.OutOfRange key) = codes "job: out of range " ++ key
 job_text job.UnknownProgram = codes "job: unknown program"
 job_text job.OutOfMemory = memory_text
 
+-- the line of a schedule that is at fault, and why
+abbrev pub schedule_line : ℕ → List ℕ → List ℕ
+schedule_line number why = codes "schedule line " ++ decimal number ++ codes ": " ++ why
+
+abbrev pub schedule_text : SchedFault → List ℕ
+schedule_text (schedule.BadLine line) = schedule_line line (codes "bad line")
+schedule_text (schedule.PlaceOutOfRange line) = schedule_line line (codes "place out of range")
+schedule_text (schedule.TooManyEvents line) = schedule_line line (codes "too many events")
+schedule_text schedule.OutOfMemory = memory_text
+
 -- the name of an input
-abbrev pub name_of : PlainNames → Input → List ℕ
+abbrev pub name_of : FileNames → Input → List ℕ
 name_of names input.Graph = names.graph
 name_of names input.Job = names.job
+name_of names input.Schedule = names.schedule
 
-abbrev pub text_of : PlainNames → Refusal → List ℕ
+abbrev pub text_of : FileNames → Refusal → List ℕ
 text_of names refusal.OutOfMemory = memory_text
 text_of names refusal.Usage = usage_text
 text_of names (refusal.Unreadable input) = codes "cannot read " ++ name_of names input
 text_of names (refusal.TooLong input) = codes "too long: " ++ name_of names input
 text_of names (refusal.Graph fault) = graph_text fault
 text_of names (refusal.Job fault) = job_text fault
+text_of names (refusal.Schedule fault) = schedule_text fault
+text_of names refusal.NotBuilt = codes "schedule: not built"
+text_of names refusal.Trace = codes "cannot write " ++ names.trace
 text_of names refusal.Output = codes "cannot write output"
 
 -- the line that is written of a refusal
-abbrev pub line_of : PlainNames → Refusal → List ℕ
+abbrev pub line_of : FileNames → Refusal → List ℕ
 line_of names why = text_of names why ++ codes "\n"

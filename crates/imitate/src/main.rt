@@ -1,12 +1,19 @@
-//! The program: vertex programs over graphs, by their synchronous rounds.
+//! The program: vertex programs over graphs, by their synchronous rounds, and on a cluster by a schedule.
 #![tactic(auto)]
 
+mod answer;
 mod chosen;
 mod command;
+mod ended;
+mod inputs;
 mod load;
 mod plain;
+mod played;
+mod reading;
 mod refusal;
 mod reply;
+mod run;
+mod told;
 mod top;
 
 use crate::top::imitate;
@@ -17,9 +24,9 @@ use std::{env, io};
 
 fn main(rt: HostRuntime) -> ExitCode {
     match arguments(&rt) {
-        Ok(arguments) => ExitCode::from(run(&rt, &arguments)),
+        Ok(arguments) => ExitCode::from(status(&rt, &arguments)),
         Err(error) if error.kind() == io::ErrorKind::OutOfMemory => ExitCode::from(1),
-        Err(_) => ExitCode::from(run(&rt, &[])),
+        Err(_) => ExitCode::from(status(&rt, &[])),
     }
 }
 
@@ -32,7 +39,7 @@ fn arguments(rt: &HostRuntime) -> io::Result<Vec<String>> {
     Ok(words)
 }
 
-fn run(rt: &HostRuntime, arguments: &[String]) -> u8 {
+fn status(rt: &HostRuntime, arguments: &[String]) -> u8 {
     let alloc = rt.alloc();
     let mut words = Vec::new(alloc);
     for argument in arguments {

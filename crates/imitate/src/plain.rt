@@ -1,7 +1,9 @@
-ghost use Rattle.std.specs.Prelude.{◌≡◌, length, IfOk};
-ghost use Rattle.imitate.specs.Outcome.{RunsPlain};
+ghost use Rattle.std.specs.Prelude.{◌≡◌, length};
+ghost use Rattle.imitate.specs.Words.{Asked, named};
+ghost use Rattle.imitate.specs.Outcome.{Answers};
 
 use crate::command::Names;
+use crate::ended::Ended;
 use crate::load::load;
 use crate::refusal::{Input, Refusal};
 use crate::reply::reply;
@@ -14,17 +16,23 @@ pub fn plain<F: Files, O: Sink>(
     names: Names,
     files: &mut F,
     out: &mut O,
-) -> Result<(), Refusal>
-    ensures { RunsPlain (F.seen files.old) (F.seen files.new) (O.seen out.old) (O.seen out.new) (record { graph = names.entry.graph.now; job = names.entry.job.now }) result }
+) -> Result<Ended, Refusal>
+    ensures { Answers (F.seen files.old) (F.seen files.new) (O.seen out.old) (O.seen out.new) (Asked.Plain (named names.entry)) result }
 {
-    let graph = load(alloc, files, names.graph, Input::Graph)?;
-    let job = load(alloc, files, names.job, Input::Job)?;
+    let graph = match load(alloc, files, names, Input::Graph) {
+        Ok(graph) => graph,
+        Err(why) => return Err(why),
+    };
+    let job = match load(alloc, files, names, Input::Job) {
+        Ok(job) => job,
+        Err(why) => return Err(why),
+    };
     let text = match reply(alloc, &graph, &job) {
         Ok(text) => text,
         Err(why) => return Err(why),
     };
     match write_whole(alloc, out, &text) {
-        Ok(()) => Ok(()),
+        Ok(()) => Ok(Ended::Done),
         Err(SinkFault::Failed) => Err(Refusal::Output),
         Err(SinkFault::OutOfMemory) => Err(Refusal::OutOfMemory),
     }

@@ -1,9 +1,12 @@
 ghost use Rattle.std.specs.Prelude.{◌≡◌, ◌++◌, codes, decimal, IfOk};
-ghost use Rattle.imitate.specs.Refusals.{status_of, graph_refusal, job_refusal, line_of, graph_text, graph_line, job_text};
+ghost use Rattle.imitate.specs.Words.{named};
+ghost use Rattle.imitate.specs.Refusals.{status_of, graph_refusal, job_refusal, schedule_refusal, name_of, line_of, graph_text, graph_line, job_text, schedule_text, schedule_line};
 
+use crate::command::Names;
 use gr_base::{OutOfMemory, push_number};
 use gr_edges::GraphFault;
 use gr_job::JobFault;
+use gr_sched::SchedFault;
 use std::alloc::Global;
 
 /// A file that is read.
@@ -11,6 +14,18 @@ use std::alloc::Global;
 pub enum Input {
     Graph,
     Job,
+    Schedule,
+}
+
+/// The name of an input.
+pub fn input_name<'a>(names: Names<'a>, input: Input) -> &'a str
+    ensures { result.now ≡ name_of (named names.entry) input }
+{
+    match input {
+        Input::Graph => names.graph,
+        Input::Job => names.job,
+        Input::Schedule => names.schedule,
+    }
 }
 
 /// Why a command line gives no result.
@@ -22,6 +37,9 @@ pub enum Refusal {
     TooLong(Input),
     Graph(GraphFault),
     Job(JobFault),
+    Schedule(SchedFault),
+    NotBuilt,
+    Trace,
     Output,
 }
 
@@ -55,6 +73,16 @@ pub fn of_job(fault: JobFault) -> Refusal
     }
 }
 
+/// How a fault of the schedule is refused.
+pub fn of_schedule(fault: SchedFault) -> Refusal
+    ensures { result ≡ schedule_refusal fault }
+{
+    match fault {
+        SchedFault::OutOfMemory => Refusal::OutOfMemory,
+        fault => Refusal::Schedule(fault),
+    }
+}
+
 /// The status that the program ends with.
 pub fn status(refusal: &Refusal) -> u8
     ensures { result ≡ status_of refusal.now }
@@ -66,26 +94,24 @@ pub fn status(refusal: &Refusal) -> u8
         Refusal::TooLong(_) => 4,
         Refusal::Graph(_) => 5,
         Refusal::Job(_) => 6,
+        Refusal::Schedule(_) => 7,
+        Refusal::NotBuilt => 7,
+        Refusal::Trace => 10,
         Refusal::Output => 11,
     }
 }
 
 /// The line that is written of a refusal.
-pub fn line(
-    alloc: Global,
-    refusal: &Refusal,
-    graph: &str,
-    job: &str,
-) -> Result<Vec<u8>, OutOfMemory>
-    ensures { IfOk result (λ text. text.items ≡ line_of (record { graph = graph.now; job = job.now }) refusal.now) }
+pub fn line(alloc: Global, refusal: &Refusal, names: Names) -> Result<Vec<u8>, OutOfMemory>
+    ensures { IfOk result (λ text. text.items ≡ line_of (named names.entry) refusal.now) }
 {
-    let mut text = words(alloc, refusal, graph, job)?;
+    let mut text = words(alloc, refusal, names)?;
     text.push(b'\n')?;
     Ok(text)
 }
 
-fn words(alloc: Global, refusal: &Refusal, graph: &str, job: &str) -> Result<Vec<u8>, OutOfMemory>
-    ensures { IfOk result (λ text. text.items ++ codes "\n" ≡ line_of (record { graph = graph.now; job = job.now }) refusal.now) }
+fn words(alloc: Global, refusal: &Refusal, names: Names) -> Result<Vec<u8>, OutOfMemory>
+    ensures { IfOk result (λ text. text.items ++ codes "\n" ≡ line_of (named names.entry) refusal.now) }
 {
     match refusal {
         Refusal::OutOfMemory => joined(alloc, b"out of memory", b""),
@@ -94,12 +120,17 @@ fn words(alloc: Global, refusal: &Refusal, graph: &str, job: &str) -> Result<Vec
             b"usage: imitate run GRAPH JOB SCHEDULE TRACE, plain GRAPH JOB, load SEED SIZE",
             b"",
         ),
-        Refusal::Unreadable(Input::Graph) => joined(alloc, b"cannot read ", graph.as_bytes()),
-        Refusal::Unreadable(Input::Job) => joined(alloc, b"cannot read ", job.as_bytes()),
-        Refusal::TooLong(Input::Graph) => joined(alloc, b"too long: ", graph.as_bytes()),
-        Refusal::TooLong(Input::Job) => joined(alloc, b"too long: ", job.as_bytes()),
+        Refusal::Unreadable(input) => {
+            joined(alloc, b"cannot read ", input_name(names, *input).as_bytes())
+        }
+        Refusal::TooLong(input) => {
+            joined(alloc, b"too long: ", input_name(names, *input).as_bytes())
+        }
         Refusal::Graph(fault) => graph_words(alloc, fault),
         Refusal::Job(fault) => job_words(alloc, fault),
+        Refusal::Schedule(fault) => schedule_words(alloc, *fault),
+        Refusal::NotBuilt => joined(alloc, b"schedule: not built", b""),
+        Refusal::Trace => joined(alloc, b"cannot write ", names.trace.as_bytes()),
         Refusal::Output => joined(alloc, b"cannot write output", b""),
     }
 }
@@ -127,11 +158,42 @@ fn graph_words(alloc: Global, fault: &GraphFault) -> Result<Vec<u8>, OutOfMemory
 fn graph_line_words(alloc: Global, line: u32, why: &[u8]) -> Result<Vec<u8>, OutOfMemory>
     ensures { IfOk result (λ text. text.items ≡ graph_line line why.now) }
 {
-    let mut text = Vec::from_slice(alloc, b"graph line ".as_slice())?;
+    line_words(alloc, b"graph line ", line, why)
+}
+
+// What is wrong with a line of an input.
+fn line_words(
+    alloc: Global,
+    input: &[u8],
+    line: u32,
+    why: &[u8],
+) -> Result<Vec<u8>, OutOfMemory>
+    ensures { IfOk result (λ text. text.items ≡ input.now ++ decimal line ++ codes ": " ++ why.now) }
+{
+    let mut text = Vec::from_slice(alloc, input)?;
     push_number(alloc, &mut text, u64::from(line))?;
     text.extend_from_slice(b": ")?;
     text.extend_from_slice(why)?;
     Ok(text)
+}
+
+fn schedule_words(alloc: Global, fault: SchedFault) -> Result<Vec<u8>, OutOfMemory>
+    ensures { IfOk result (λ text. text.items ≡ schedule_text fault) }
+{
+    match fault {
+        SchedFault::BadLine(line) => schedule_line_words(alloc, line, b"bad line"),
+        SchedFault::PlaceOutOfRange(line) => {
+            schedule_line_words(alloc, line, b"place out of range")
+        }
+        SchedFault::TooManyEvents(line) => schedule_line_words(alloc, line, b"too many events"),
+        SchedFault::OutOfMemory => joined(alloc, b"out of memory", b""),
+    }
+}
+
+fn schedule_line_words(alloc: Global, line: u32, why: &[u8]) -> Result<Vec<u8>, OutOfMemory>
+    ensures { IfOk result (λ text. text.items ≡ schedule_line line why.now) }
+{
+    line_words(alloc, b"schedule line ", line, why)
 }
 
 fn job_words(alloc: Global, fault: &JobFault) -> Result<Vec<u8>, OutOfMemory>

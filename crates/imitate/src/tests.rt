@@ -4,6 +4,8 @@ use gr_outside::{MemoryFiles, MemorySink};
 use std::alloc::Global;
 use std::test::Fail;
 
+mod run;
+
 // What a call of the program leaves: its status, its output and its messages.
 #[derive(Drop)]
 struct Left {
@@ -12,6 +14,7 @@ struct Left {
     err: MemorySink,
 }
 
+// The numbers of the calls that fail: one, or none.
 fn listed(alloc: Global, call: u32) -> Result<Items<u32>, Fail> {
     let mut calls = Items::new(alloc);
     if call > 0 {
@@ -187,6 +190,14 @@ fn words_and_missing_files(rt: HostRuntime) -> Result<(), Fail> {
         (["plain", "g", "j"].as_slice(), 3, "cannot read g\n"),
         (["plain", "j", "g"].as_slice(), 3, "cannot read g\n"),
         (["run"].as_slice(), 2, usage),
+        (["run", "g", "j"].as_slice(), 2, usage),
+        (["run", "g", "j", "s"].as_slice(), 2, usage),
+        (["run", "g", "j", "s", "t", "u"].as_slice(), 2, usage),
+        (["plain", "g", "j", "s", "t"].as_slice(), 2, usage),
+        (["load", "0", "1"].as_slice(), 2, usage),
+        (["run", "g", "j", "s", "t"].as_slice(), 3, "cannot read g\n"),
+        (["run", "j", "j", "s", "t"].as_slice(), 3, "cannot read s\n"),
+        (["run", "j", "j", "j", "j"].as_slice(), 5, "graph line 1: bad line\n"),
         (["plain", "g"].as_slice(), 2, usage),
         (["--help"].as_slice(), 2, usage),
         ([].as_slice(), 2, usage),

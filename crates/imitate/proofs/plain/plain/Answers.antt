@@ -1,27 +1,25 @@
-use Rattle.std.specs.Prelude.{IfSome}
+use Rattle.imitate.specs.Words.{FileNames, named}
+use Rattle.imitate.proofs.Quiet.{quiet-some, quiet-kept}
+use Rattle.imitate.proofs.Outcomes.{reply-told}
+use Rattle.imitate.proofs.Plans.{reply-fails}
+use Rattle.imitate.specs.Contents.{content}
 use Rattle.std.proofs.Common.{◌≡◌}
-use Rattle.imitate.specs.Words.{PlainNames}
-use Rattle.imitate.specs.Reply.{reply_of}
-use Rattle.imitate.specs.Outcome.{reply_to}
-use Rattle.imitate.proofs.Causes.{reply-loaded, refused-cause, refused-output, KeepsFiles-trans}
 use Rattle.imitate.proofs.plain.plain.Goals as goal
 
-pub returns-in-Err : goal.returns-in-Err
-returns-in-Err g c =
-    let files = g.F.Files.seen c.args.files.now in
-    let files' = g.F.Files.seen c.load-2.new.files in
-    let out = g.O.Sink.seen c.args.out.now in
-    let names : PlainNames = record { graph = c.args.names.graph.now; job = c.args.names.job.now } in
-    let graph = c.in_ok-graph.graph.items in
-    let job = c.in_ok-job.job.items in
-    let first = rw c.in_ok-graph.was at c.load.ensures.whole in
-    let quiet = rw c.in_ok-graph.was at c.load.ensures.quiet in
-    let second = rw c.in_ok-job.was at c.load-2.ensures.whole in
-    let is_reply : IfSome files.told (λ t. reply_to t names ≡ reply_of graph job) = reply-loaded files (g.F.Files.seen c.load.new.files) names graph job first quiet second in
-    let why = rw (c.deref.ensures.value, c.deref-2.ensures.value) at c.in-Err.ensures.refused in
+pub returns-in-Err-reply : goal.returns-in-Err-reply
+returns-in-Err-reply g c =
+    let a = g.F.Files.seen c.args.files.now in
+    let b = g.F.Files.seen c.load.new.files in
+    let d = g.F.Files.seen c.load-2.new.files in
+    let names : FileNames = named c.args.names in
+    let graph = c.in-Ok.graph.items in
+    let job = c.in-Ok-load.job.items in
+    let first = c.in-Ok.ensures in
+    let second = c.in-Ok-load.ensures in
+    let told = reply-told a.told names graph job first.whole (quiet-some a b first.quiet (λ t. content t names.job ≡ job) second.whole) in
     record {
       shown = tt;
-      cause = refused-cause files files' out names graph job is_reply c.in-Err.why why;
-      output = refused-output files files' out names graph job is_reply c.in-Err.why why;
-      kept = KeepsFiles-trans files (g.F.Files.seen c.load.new.files) files' c.load.ensures.kept c.load-2.ensures.kept;
+      ends = tt;
+      fails = reply-fails a d (g.O.Sink.seen c.args.out.now) names (quiet-kept a b first.quiet d second.kept) graph job told c.in-Err-reply.why
+          (rw (c.deref.ensures.value, c.deref-2.ensures.value) at c.in-Err-reply.ensures.refused);
     }

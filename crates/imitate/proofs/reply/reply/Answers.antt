@@ -1,15 +1,9 @@
-use Rattle.gr_job.specs.Job.{values_of}
-use Rattle.imitate.proofs.Replies.{reply-job_refused, reply-graph_refused, reply-shown}
+use Rattle.imitate.specs.Reading.{task_in}
+use Rattle.imitate.proofs.Readings.{reply-refused, reply-read}
 use Rattle.imitate.proofs.reply.reply.Goals as goal
 
 pub returns-in-Err-clause-refused : goal.returns-in-Err-clause-refused
-returns-in-Err-clause-refused c = rw c.of_job.ensures (reply-job_refused c.args.graph.now c.args.job.now c.in-Err.fault c.in-Err.ensures.refused)
-
-pub returns-in-Err-read_graph-clause-refused : goal.returns-in-Err-read_graph-clause-refused
-returns-in-Err-read_graph-clause-refused c =
-    rw c.of_graph.ensures (reply-graph_refused c.args.graph.now c.args.job.now (values_of c.in-Ok.job) c.in-Ok.ensures.ok c.in-Err-read_graph.fault c.in-Err-read_graph.ensures.refused)
+returns-in-Err-clause-refused c = reply-refused c.args.graph.now c.args.job.now c.in-Err.why c.in-Err.ensures.refused
 
 pub returns-clause-shown : goal.returns-clause-shown
-returns-clause-shown c =
-    reply-shown c.args.graph.now c.args.job.now (values_of c.in-Ok.job) c.in-Ok.ensures.ok c.in-Ok-read_graph.graph.edges c.in-Ok-read_graph.graph.vertices c.in_ok-text.text.items
-    c.in-Ok-read_graph.ensures.accepted c.in-Ok-read_graph.ensures.edges c.in-Ok-read_graph.ensures.vertices c.in_ok-text.ensures
+returns-clause-shown c = reply-read c.args.graph.now c.args.job.now (task_in c.in-Ok.work) c.in_ok-text.text.items c.in-Ok.ensures.read c.in_ok-text.ensures

@@ -1,41 +1,25 @@
-use Rattle.std.proofs.Common.{map, Bor, ℕ, List, refl}
-use Rattle.imitate.specs.declared.refusal.Refusal.TheVariants as refusal_is
-use Rattle.imitate.specs.Words.{PlainNames}
-use Rattle.imitate.proofs.Explaining.{explains-usage, explains-refusal, graph-refused, job-refused}
+use Rattle.std.proofs.Common.{◌≡◌, ◌∙◌, ℕ, List, Bor, map, refl, sym, subst}
+use Rattle.imitate.specs.Words.{FileNames, asked_by, names_in, nobody}
+use Rattle.imitate.proofs.Behaviours.{usage-left, end-answered, refusal-left}
 use Rattle.imitate.proofs.top.imitate.Goals as goal
 
-pub returns-in_default-clause-refused : goal.returns-in_default-clause-refused
-returns-in_default-clause-refused g c = λ _.
-    let none = rw c.in_default.is at c.plain_names.ensures.none in (
-      refusal_is.Usage,
-      explains-usage (g.F.Files.seen c.args.files.now) (g.O.Sink.seen c.args.out.now) (g.E.Sink.seen c.args.err.now) (g.E.Sink.seen c.say.new.err)
-          (map (λ (w : Bor (List ℕ)). w.now) c.args.words.now) c.say.result (none refl) c.say.ensures.status c.say.ensures.part c.say.ensures.whole,
-    )
+pub returns-in_default-clause-left : goal.returns-in_default-clause-left
+returns-in_default-clause-left g c =
+    let words : List (List ℕ) = map (λ (w : Bor (List ℕ)). w.now) c.args.words.now in
+    usage-left (g.F.Files.seen c.args.files.now) (g.O.Sink.seen c.args.out.now) (g.E.Sink.seen c.args.err.now) (g.E.Sink.seen c.say.new.err) words c.say.result
+    (c.in_default.ensures.none refl) c.say.ensures.status c.say.ensures.part c.say.ensures.whole
 
-pub returns-in-Err-clause-graph : goal.returns-in-Err-clause-graph
-returns-in-Err-clause-graph g c = λ is.
-    let names : PlainNames = record { graph = c.in-Some.names.graph.now; job = c.in-Some.names.job.now } in
-    let given = rw c.in-Some.is at c.plain_names.ensures.some in
-    let cause = rw c.in-Err.is at c.plain.ensures.cause in
-    graph-refused (g.F.Files.seen c.args.files.now) (g.F.Files.seen c.plain.new.files) (g.O.Sink.seen c.args.out.now) (g.O.Sink.seen c.plain.new.out)
-    (map (λ (w : Bor (List ℕ)). w.now) c.args.words.now) names given c.say-in-Err.result c.in-Err.refusal is c.say-in-Err.ensures.status cause
+pub returns-in-Ok-clause-answered : goal.returns-in-Ok-clause-answered
+returns-in-Ok-clause-answered g c =
+    let words : List (List ℕ) = map (λ (w : Bor (List ℕ)). w.now) c.args.words.now in
+    end-answered words (asked_by c.in-Some.command) c.in-Some.ensures.some (g.F.Files.seen c.args.files.now) (g.F.Files.seen c.answer.new.files) (g.O.Sink.seen c.args.out.now) (g.O.Sink.seen c.answer.new.out)
+    c.in-Ok.ended c.in-Ok.ensures c.status.result c.status.ensures (g.E.Sink.seen c.args.err.now)
 
-pub returns-in-Err-clause-job : goal.returns-in-Err-clause-job
-returns-in-Err-clause-job g c = λ is.
-    let names : PlainNames = record { graph = c.in-Some.names.graph.now; job = c.in-Some.names.job.now } in
-    let given = rw c.in-Some.is at c.plain_names.ensures.some in
-    let cause = rw c.in-Err.is at c.plain.ensures.cause in
-    job-refused (g.F.Files.seen c.args.files.now) (g.F.Files.seen c.plain.new.files) (g.O.Sink.seen c.args.out.now) (g.O.Sink.seen c.plain.new.out)
-    (map (λ (w : Bor (List ℕ)). w.now) c.args.words.now) names given c.say-in-Err.result c.in-Err.refusal is c.say-in-Err.ensures.status cause
-
-pub returns-in-Err-clause-refused : goal.returns-in-Err-clause-refused
-returns-in-Err-clause-refused g c = λ _.
-    let names : PlainNames = record { graph = c.in-Some.names.graph.now; job = c.in-Some.names.job.now } in
-    let given = rw c.in-Some.is at c.plain_names.ensures.some in
-    let cause = rw c.in-Err.is at c.plain.ensures.cause in
-    let output = rw c.in-Err.is at c.plain.ensures.output in (
-      c.in-Err.refusal,
-      explains-refusal (g.F.Files.seen c.args.files.now) (g.F.Files.seen c.plain.new.files) (g.O.Sink.seen c.args.out.now) (g.O.Sink.seen c.plain.new.out)
-          (map (λ (w : Bor (List ℕ)). w.now) c.args.words.now) names given (g.E.Sink.seen c.args.err.now) (g.E.Sink.seen c.say-in-Err.new.err) c.say-in-Err.result c.in-Err.refusal
-          cause output c.say-in-Err.ensures.status c.say-in-Err.ensures.part c.say-in-Err.ensures.whole,
-    )
+pub returns-in-Err-clause-left : goal.returns-in-Err-clause-left
+returns-in-Err-clause-left g c =
+    let words : List (List ℕ) = map (λ (w : Bor (List ℕ)). w.now) c.args.words.now in
+    let asked = asked_by c.in-Some.command in
+    let part = rw c.names.ensures at c.say-in-Err.ensures.part in
+    let whole = rw c.names.ensures at c.say-in-Err.ensures.whole in
+    refusal-left words asked c.in-Some.ensures.some (g.F.Files.seen c.args.files.now) (g.F.Files.seen c.answer.new.files) (g.O.Sink.seen c.args.out.now) (g.O.Sink.seen c.answer.new.out)
+    (g.E.Sink.seen c.args.err.now) (g.E.Sink.seen c.say-in-Err.new.err) c.say-in-Err.result c.in-Err.refusal c.in-Err.ensures.fails c.say-in-Err.ensures.status part whole

@@ -1,0 +1,141 @@
+-- A run that was played: the cluster before it, the result of one that is done, and how one leaves its trace that is not played to
+-- its end.
+use Rattle.std.proofs.Common.{◌≡◌, ◌≤◌, ◌<◌, ◌^◌, ◌⊎◌, ◌∙◌, ℕ, List, length, Option, Some, None, Result, refl, sym, ap, subst, inl, inr, lit<, lit≤}
+use Rattle.std.specs.Prelude.{IsTrue, IfSome, IsSome, is_some}
+use Rattle.std.specs.List.{All, AllByRecursion as Each}
+use Rattle.std.proofs.lemmas.List.{length-map}
+use Rattle.std.proofs.lemmas.List.Elements.{recursion_from_All}
+use Rattle.gr_base.specs.declared.records.Edge.{Edge}
+use Rattle.gr_base.specs.Rising.{has}
+use Rattle.gr_lists.proofs.Maps.{map-rises}
+use Rattle.gr_outside.specs.Causes.{Rose}
+use Rattle.gr_outside.specs.Files.{FilesSeen}
+use Rattle.gr_program.specs.Program.{Program, ProgramLaws}
+use Rattle.gr_program.specs.Result.{done_text, result_text}
+use Rattle.gr_edges.specs.declared.graph.Graph.{Graph}
+use Rattle.gr_edges.specs.declared.graph.VertexInfo.{VertexInfo}
+use Rattle.gr_edges.specs.Vertices.{id_of, ids}
+use Rattle.gr_job.specs.declared.job.Job.{Job}
+use Rattle.gr_job.specs.declared.job.ProgramChoice.{ProgramChoice}
+use Rattle.gr_sched.specs.declared.event.Line.{Line}
+use Rattle.gr_view.specs.declared.coordinator.Mode.{Mode}
+use Rattle.gr_view.specs.declared.coordinator.Mode.TheVariants as mode
+use Rattle.gr_cluster.specs.Tables.{Cluster}
+use Rattle.gr_cluster.specs.Load.{Setting, load}
+use Rattle.gr_cluster.specs.Runs.{Position, position_after}
+use Rattle.gr_cluster.specs.Ending as cluster
+use Rattle.gr_agree.specs.FirstTruth.{IsGraph, IsSetting}
+use Rattle.gr_law_runs.specs.Undisturbed.{is_plain_line}
+use Rattle.gr_law_runs.proofs.Schedules.{schedule-result}
+use Rattle.gr_core.specs.Loaded.{setting_of}
+use Rattle.gr_core.specs.Tables.{Tables}
+use Rattle.gr_play.specs.Playing.{start, Plays}
+use Rattle.gr_play.specs.Tracing.{Traces, TracesPart}
+use Rattle.imitate.specs.declared.ended.Ended.{Ended}
+use Rattle.imitate.specs.declared.ended.Ended.TheVariants as ended
+use Rattle.imitate.specs.declared.refusal.Refusal.{Refusal}
+use Rattle.imitate.specs.declared.refusal.Refusal.TheVariants as refusal
+use Rattle.imitate.specs.declared.told.Told.{Told}
+use Rattle.imitate.specs.Chosen.{Chosen, chosen_of}
+use Rattle.imitate.specs.Running.{ended_by, trace_after}
+use Rattle.imitate.specs.Playing.{IsPartTraced, IsUnplayed, PlaysRun, IsTold}
+use Rattle.imitate.proofs.Quiet.{traces-part}
+
+-- a cluster as it is at load, as far as its counts go
+pub record IsFresh {V A : Type 0} (c : Cluster V A) (places : ℕ) : Type 0 where
+  pub places_are : c.places ≡ places
+  pub flight : length c.flight ≤ 200000
+  pub serial : c.serial < 2 ^ 62
+  pub epoch : c.coordinator.epoch < 2 ^ 62
+  pub commits : c.coordinator.commits < 2 ^ 62
+
+module _ {V A : Type 0} (P : Program V A) (s : Setting) (es : List Edge) (vs : List ℕ) where
+  load-fresh : IsFresh (load P s es vs) s.places
+  unfolding load
+  load-fresh = record { places_are = refl; flight = lit≤ tt; serial = lit< tt; epoch = lit< tt; commits = lit< tt }
+
+  pub loaded-fresh : {R : Type 0} (p : R) (t : Tables R V A) → t ≡ record { program = p; cluster = load P s es vs } → IsFresh t.cluster s.places
+  loaded-fresh {R} p t is = subst (λ (u : Tables R V A). IsFresh u.cluster s.places) (sym is) load-fresh
+
+-- a job and a graph are within the ranges that runs are about
+pub setting-is : (job : Job) → job.theta < 2 ^ 32 → IsSetting (setting_of job)
+setting-is job small = record {
+  some_place = job.some_places;
+  few_places = job.most_places;
+  spares = job.most_spares;
+  losses = job.most_losses;
+  theta = small;
+  some_round = job.some_rounds;
+  few_rounds = job.most_rounds;
+}
+
+pub graph-is : (graph : Graph) → Each (λ v. v < 2 ^ 32) (ids graph.vertices) → length graph.edges ≤ 4194304 → length graph.vertices ≤ 1048576
+    → IsGraph graph.edges (ids graph.vertices)
+graph-is graph fit edges vertices =
+    let es = graph.edges in
+    let vs = ids graph.vertices in
+    record {
+      rise = map-rises id_of (λ v. v) graph.vertices graph.rise;
+      ids = fit;
+      sources = recursion_from_All (λ (e : Edge). IsTrue (has vs e.src)) es (λ k d lt. (graph.ends k d lt).src);
+      targets = recursion_from_All (λ (e : Edge). IsTrue (has vs e.dst)) es (λ k d lt. (graph.ends k d lt).dst);
+      few_vertices = rw (length-map graph.vertices id_of) vertices;
+      few_edges = edges;
+    }
+
+-- only the mode Done is told as done
+module _ {V A : Type 0} (c : Cluster V A) where
+  pub ending-done : (m : Mode) → cluster.Ending.Done ≡ cluster.ending_by c m → m ≡ mode.Done
+  ending-done mode.Done e = refl
+  ending-done mode.Lost e = absurd (cc)
+  ending-done mode.Running e = absurd (cc)
+  ending-done mode.Failed e = absurd (cc)
+  ending-done mode.Recovering e = absurd (cc)
+  ending-done mode.Repairing e = absurd (cc)
+
+  pub ended-done : (m : Mode) → ended_by (cluster.ending_by c m) ≡ ended.Done → m ≡ mode.Done
+  ended-done mode.Done e = refl
+  ended-done mode.Lost e = absurd (cc)
+  ended-done mode.Running e = absurd (cc)
+  ended-done mode.Failed e = absurd (cc)
+  ended-done mode.Recovering e = absurd (cc)
+  ended-done mode.Repairing e = absurd (cc)
+
+module _ {V A : Type 0} (P : Program V A) (L : ProgramLaws P) (s : Setting) (es : List Edge) (vs : List ℕ) (IS : IsSetting s) (IG : IsGraph es vs) (ls : List Line)
+    (plain : All (λ l. IsTrue (is_plain_line l)) ls) (text_of : V → List ℕ) where
+  -- the text of a run that is done is the result text
+  pub done-text : (steps : ℕ) (c : Cluster V A) (told : Option cluster.Ending) (end : Ended) (text : List ℕ) → Plays P (start (load P s es vs) ls) steps c
+      → IsTold text_of c told end text → end ≡ ended.Done → text ≡ result_text P text_of es vs s.limit
+  done-text steps c told end text plays is done =
+      let m : c.coordinator.mode ≡ mode.Done = ended-done c c.coordinator.mode (is.ended ∙ done) in
+      let last = (position_after P steps (start (load P s es vs) ls)).cluster in
+      let over : last.coordinator.mode ≡ mode.Done = ap (λ (k : Cluster V A). k.coordinator.mode) plays.cluster ∙ m in
+      let result = schedule-result P L s es vs IS IG ls (recursion_from_All (λ (l : Line). IsTrue (is_plain_line l)) ls plain) steps over in
+      is.text_is
+      ∙ ap (λ (k : Mode). cluster.ending_text text_of c (cluster.ending_by c k)) m
+      ∙ ap (λ (k : Cluster V A). done_text text_of k.coordinator.round (cluster.results_of k)) (sym plays.cluster)
+      ∙ (λ i. done_text text_of (result.round i) (result.values i))
+
+module _ (files files' : FilesSeen) (trace : List ℕ) (c : Chosen) (s : Position c.Value c.Sum) (steps : ℕ)
+    (begun : IfSome files'.told (λ u. is_some u.begun ≡ files'.is_begun)) where
+  part-traced : (told : Option cluster.Ending) → (IsSome told → Traces files files' trace (trace_after c s steps)) → (told ≡ None → TracesPart files files' trace (trace_after c s steps))
+      → IsPartTraced files files' trace c s
+  part-traced (Some e) whole part = (steps, traces-part files files' trace (trace_after c s steps) begun (whole refl))
+  part-traced None whole part = (steps, part refl)
+
+  pub is-unplayed : (told : Option cluster.Ending) → (IsSome told → Traces files files' trace (trace_after c s steps)) → (told ≡ None → TracesPart files files' trace (trace_after c s steps))
+      → (why : Refusal) → (why ≡ refusal.OutOfMemory) ⊎ ((why ≡ refusal.Trace) × Rose files.write_faults files'.write_faults) → IsUnplayed files files' trace c s why
+  is-unplayed told whole part why is =
+      let traced = part-traced told whole part in
+      elim is [
+        | inl e ↦ subst (IsUnplayed files files' trace c s) (sym e) (inr traced)
+        | inr t ↦ subst (IsUnplayed files files' trace c s) (sym t.0) (t.1, traced)
+      ]
+
+-- the run of a program of a job, which may be told in two ways
+module _ (files files' : FilesSeen) (trace : List ℕ) (s : Setting) (es : List Edge) (vs : List ℕ) (ls : List Line) (result : Result Told Refusal) where
+  abbrev pub ChosenRun : ProgramChoice → Type 0
+  ChosenRun p = PlaysRun files files' trace (chosen_of p) (start (load (chosen_of p).program s es vs) ls) result
+
+  pub chosen-run : (p q : ProgramChoice) → p ≡ q → ChosenRun q → ChosenRun p
+  chosen-run p q e h = subst ChosenRun (sym e) h

@@ -1,0 +1,93 @@
+-- What the bytes of a graph, a job and a schedule say, or why one of them is refused.
+use Rattle.std.specs.Prelude.{ℕ, ◌<◌, ◌≤◌, ◌^◌, IsTrue, List, length, Option, Some, None, Result, Ok, Err, if◌then◌else◌}
+use Rattle.std.specs.List.{All, AllByRecursion as Each, list_all}
+use Rattle.gr_base.specs.declared.records.Edge.{Edge}
+use Rattle.gr_edges.specs.declared.fault.GraphFault.{GraphFault}
+use Rattle.gr_edges.specs.Reading as edges
+use Rattle.gr_edges.specs.Vertices.{ids}
+use Rattle.gr_job.specs.declared.fault.JobFault.{JobFault}
+use Rattle.gr_job.specs.Job.{JobValues, values_of, job_of}
+use Rattle.gr_sched.specs.declared.fault.SchedFault.{SchedFault}
+use Rattle.gr_sched.specs.declared.line.LineFound.{LineFound}
+use Rattle.gr_sched.specs.declared.event.Line.{Line}
+use Rattle.gr_sched.specs.Reading as sched
+use Rattle.gr_law_runs.specs.Undisturbed.{is_plain_line}
+use Rattle.imitate.specs.declared.reading.Work.{Work}
+use Rattle.imitate.specs.declared.reading.Accepted.{Accepted}
+use Rattle.imitate.specs.declared.refusal.Refusal.{Refusal}
+use Rattle.imitate.specs.declared.refusal.Refusal.TheVariants as refusal
+use Rattle.imitate.specs.Refusals.{graph_refusal, job_refusal, schedule_refusal}
+use Rattle.imitate.specs.Chosen.{chosen_text}
+
+-- a job, and the edges and the rising vertices of a graph
+pub record Task : Type 0 where
+  pub job : JobValues
+  pub edges : List Edge
+  pub vertices : List ℕ
+
+-- and the lines of a schedule
+pub record Plan : Type 0 where
+  pub task : Task
+  pub lines : List Line
+
+-- the graph is read as the job asks
+abbrev pub after_graph : JobValues → List ℕ → Option GraphFault → Result Task Refusal
+after_graph job graph (Some fault) = Err (graph_refusal fault)
+after_graph job graph None =
+    let lines = edges.lines_of graph in
+    Ok (record { job = job; edges = edges.edges_of job.undirected lines; vertices = ids (edges.vertices_of job.undirected lines) })
+
+-- the job is read before the graph
+abbrev pub after_job : List ℕ → Result JobValues JobFault → Result Task Refusal
+after_job graph (Err fault) = Err (job_refusal fault)
+after_job graph (Ok job) = after_graph job graph (edges.first_fault job.undirected (edges.lines_of graph))
+
+-- what a graph and a job say, or why one of them is refused
+unfoldable pub task_of : List ℕ → List ℕ → Result Task Refusal
+task_of graph job = after_job graph (job_of job)
+
+-- lines that crash, recover, repair or discard are not built
+abbrev pub if_built : Task → List Line → Result Plan Refusal
+if_built task lines = if list_all is_plain_line lines then Ok (record { task = task; lines = lines }) else Err refusal.NotBuilt
+
+abbrev pub after_schedule : Task → List LineFound → Option SchedFault → Result Plan Refusal
+after_schedule task found (Some fault) = Err (schedule_refusal fault)
+after_schedule task found None = if_built task (sched.schedule_of found)
+
+-- the schedule is read last, for the places of the job
+abbrev pub after_task : List ℕ → Result Task Refusal → Result Plan Refusal
+after_task schedule (Err why) = Err why
+after_task schedule (Ok task) = let found = sched.lines_of task.job.places schedule in after_schedule task found (sched.first_fault found)
+
+-- what a graph, a job and a schedule say, or why one of them is refused
+unfoldable pub plan_of : List ℕ → List ℕ → List ℕ → Result Plan Refusal
+plan_of graph job schedule = after_task schedule (task_of graph job)
+
+-- what the rounds of a task print
+abbrev pub result_of : Task → List ℕ
+result_of task = chosen_text task.job.program task.edges task.vertices task.job.rounds
+
+abbrev pub result_or_refusal : Result Task Refusal → Result (List ℕ) Refusal
+result_or_refusal (Err why) = Err why
+result_or_refusal (Ok task) = Ok (result_of task)
+
+-- the result text of a graph and a job, or why one of them is refused
+unfoldable pub reply_of : List ℕ → List ℕ → Result (List ℕ) Refusal
+reply_of graph job = result_or_refusal (task_of graph job)
+
+-- what was read
+abbrev pub task_in : Work → Task
+task_in work = record { job = values_of work.job; edges = work.graph.edges; vertices = ids work.graph.vertices }
+
+abbrev pub plan_in : Accepted → Plan
+plan_in a = record { task = task_in a.work; lines = a.lines }
+
+-- what a cluster needs of what was read: ids of 32 bits, graph and schedule within their limits, and lines that it plays,
+-- for its places
+pub record IsPlayable (a : Accepted) : Type 0 where
+  pub ids_fit : Each (λ v. v < 2 ^ 32) (ids a.work.graph.vertices)
+  pub few_edges : length a.work.graph.edges ≤ edges.max_edges
+  pub few_vertices : length a.work.graph.vertices ≤ edges.max_vertices
+  pub few_lines : length a.lines ≤ sched.max_events
+  pub plain : All (λ l. IsTrue (is_plain_line l)) a.lines
+  pub placed : All (λ l. IsTrue (sched.are_below a.work.job.places (sched.places_of l))) a.lines
