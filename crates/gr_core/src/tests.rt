@@ -1,9 +1,5 @@
 // A cluster at load, and a run of one that nothing disturbs.
-ghost use Rattle.std.specs.Prelude.{ℕ, ◌≡◌, ◌≤◌, ◌<◌, ◌-◌, ◌^◌, [], true, false, length};
-ghost use Rattle.gr_base.specs.Rising.{has as is_in};
-ghost use Rattle.gr_view.specs.Decisions.{looked_at};
-ghost use Rattle.gr_view.specs.Modes.{is_rebuild};
-ghost use Rattle.gr_cluster.specs.Step.{down_among};
+ghost use Rattle.std.specs.Prelude.{◌≡◌, ◌≤◌, ◌<◌, ◌-◌, ◌^◌, true, length};
 
 use crate::{Cluster, Host, RebuildLine};
 use gr_base::{OutOfMemory, PlaceSet};
@@ -36,6 +32,13 @@ fn copy_at(cluster: &Cluster<Shortest>, p: u8, v: u32) -> Option<VertexCopy<Dist
     None
 }
 
+fn can_work(cluster: &Cluster<Shortest>, p: u8) -> bool {
+    if p < cluster.places() {
+        return cluster.can_work(p);
+    }
+    false
+}
+
 // A copy that both places have.
 fn everywhere(
     vertex: u32,
@@ -64,6 +67,10 @@ fn both_places_hold_each_vertex_of_a_triangle(rt: HostRuntime) -> Result<(), Fai
     assert_eq!(rt; cluster.coordinator().limit, 1000);
     assert_eq!(rt; cluster.mode(), Mode::Running);
     assert_eq!(rt; cluster.rounds(), 0);
+    assert_eq!(rt;
+        (can_work(&cluster, 0), can_work(&cluster, 1)),
+        (true, true)
+    );
     let far = u64::MAX;
     for (vertex, indeg, outdeg, master, length) in [
         (0, 0, 2, 0, 0),
@@ -81,49 +88,18 @@ fn both_places_hold_each_vertex_of_a_triangle(rt: HostRuntime) -> Result<(), Fai
     Ok(())
 }
 
-// Whether a round is open and no place is down.
-fn is_undisturbed(cluster: &Cluster<Shortest>) -> bool
-    ensures rebuild { result ≡ true → is_rebuild cluster.now.cluster.coordinator.mode ≡ false }
-    ensures up { result ≡ true → down_among cluster.now.cluster (looked_at cluster.now.cluster.coordinator) ≡ [] }
-{
-    let coordinator = cluster.coordinator();
-    match coordinator.mode {
-        Mode::Running => includes(cluster.up(), coordinator.parties()),
-        _ => false,
-    }
-}
-
-// Whether all places of a set stand in another.
-fn includes(set: PlaceSet, places: PlaceSet) -> bool
-    ensures { result ≡ true → (p : ℕ) → is_in places p ≡ true → is_in set p ≡ true }
-{
-    let _places = places.has(0);
-    for p in 0..64 {
-        if places.has(p) {
-            if !set.has(p) {
-                return false;
-            }
-        }
-    }
-    true
-}
-
 // Whether no count of the cluster is at its end.
 fn has_room(cluster: &Cluster<Shortest>) -> bool
     ensures flight { result ≡ true → length cluster.now.cluster.flight < 2 ^ 32 - 1 }
     ensures serial { result ≡ true → cluster.now.cluster.serial < 2 ^ 64 - 1 }
     ensures epoch { result ≡ true → cluster.now.cluster.coordinator.epoch < 2 ^ 64 - 1 }
     ensures commits { result ≡ true → cluster.now.cluster.coordinator.commits < 2 ^ 64 - 1 }
-    ensures rounds { result ≡ true → cluster.now.cluster.coordinator.round < 2 ^ 32 - 1 }
 {
     let coordinator = cluster.coordinator();
     if cluster.flight_len() == u32::MAX || cluster.serial == u64::MAX {
         return false;
     }
-    if coordinator.epoch == u64::MAX || coordinator.commits == u64::MAX {
-        return false;
-    }
-    coordinator.round != u32::MAX
+    coordinator.epoch != u64::MAX && coordinator.commits != u64::MAX
 }
 
 // The outcome of an event, where nothing forbids it.
@@ -131,7 +107,7 @@ fn take(
     cluster: &mut Cluster<Shortest>,
     event: Event,
 ) -> Result<Option<Outcome<Distance, Distance>>, OutOfMemory> {
-    if !is_undisturbed(cluster) || !has_room(cluster) {
+    if !has_room(cluster) {
         return Ok(None);
     }
     match event {
@@ -177,6 +153,10 @@ fn a_run_ends_with_the_distances(rt: HostRuntime) -> Result<(), Fail> {
         take(&mut cluster, Event::Barrier)?;
     }
     assert_eq!(rt; (cluster.mode(), cluster.rounds()), (Mode::Done, 2));
+    assert_eq!(rt;
+        (can_work(&cluster, 0), can_work(&cluster, 1)),
+        (false, false)
+    );
     for (i, value) in [
         (0, Some((0, 0))),
         (1, Some((1, 1))),

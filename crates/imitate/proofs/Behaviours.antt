@@ -25,12 +25,15 @@ pub usage-left : (files : FilesSeen) (out err err' : SinkSeen) (words : List (Li
     → GainsPart err err' (line_of nobody refusal.Usage) → (code ≢ 1 → Gains err err' (line_of nobody refusal.Usage) ⊎ Rose err.faults err'.faults)
     → LeavesBehind files files out out err err' words code
 usage-left files out err err' words code none status part whole = record {
-  explained = inr (refusal.Usage, record {
-    status = status;
-    fails = subst (λ (o : Option Asked). FailsAt files files out out o refusal.Usage) (sym none) (refl, refl, keeps-nothing files);
-    part = part;
-    whole = whole;
-  });
+  explained = inr (
+    refusal.Usage,
+    record {
+      status = status;
+      fails = subst (λ (o : Option Asked). FailsAt files files out out o refusal.Usage) (sym none) (refl, refl, keeps-nothing files);
+      part = part;
+      whole = whole;
+    },
+  );
   untouched = λ _ _. (refl, keeps-nothing files);
   others = subst (KeepsUntraced files files) (sym none) (keeps-nothing files);
 }
@@ -134,12 +137,15 @@ module _ (words : List (List ℕ)) (asked : Asked) (given : asked_of words ≡ S
     pub refusal-left : (err err' : SinkSeen) (code : ℕ) (why : Refusal) → Fails files files' out out' asked why → (code ≡ status_of why) ⊎ (code ≡ 1) → GainsPart err err' (line_of (names_in asked) why)
         → (code ≢ 1 → Gains err err' (line_of (names_in asked) why) ⊎ Rose err.faults err'.faults) → LeavesBehind files files' out out' err err' words code
     refusal-left err err' code why F status part whole = record {
-      explained = inr (why, record {
-        status = status;
-        fails = subst (λ (o : Option Asked). FailsAt files files' out out' o why) (sym given) F;
-        part = subst (λ (n : FileNames). GainsPart err err' (line_of n why)) named-so part;
-        whole = λ other. subst (λ (n : FileNames). Gains err err' (line_of n why) ⊎ Rose err.faults err'.faults) named-so (whole other);
-      });
+      explained = inr (
+        why,
+        record {
+          status = status;
+          fails = subst (λ (o : Option Asked). FailsAt files files' out out' o why) (sym given) F;
+          part = subst (λ (n : FileNames). GainsPart err err' (line_of n why)) named-so part;
+          whole = λ other. subst (λ (n : FileNames). Gains err err' (line_of n why) ⊎ Rose err.faults err'.faults) named-so (whole other);
+        },
+      );
       untouched = λ low high. fails-untouched code asked why F status low high;
       others = subst (KeepsUntraced files files') (sym given) (left-others asked why F.left);
     }

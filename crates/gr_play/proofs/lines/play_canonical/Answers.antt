@@ -232,4 +232,3 @@ returns g c =
       places = G.onward.places;
       fault = λ f. absurd (cc);
     }
-

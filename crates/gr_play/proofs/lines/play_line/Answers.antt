@@ -75,4 +75,3 @@ pub returns-in-Finish-clause-room : goal.returns-in-Finish-clause-room
 returns-in-Finish-clause-room g c =
     let from = c.args.steps.now in
     OnOk-of c.play_canonical-in-Finish.result (λ n R. c.play_canonical-in-Finish.ensures.room n (HasRoomFor-fewer c.args.cluster.now.cluster from (n + 1) n (omega arith) R))
-
