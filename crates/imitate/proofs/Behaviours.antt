@@ -1,5 +1,5 @@
 -- What a call comes to: with words of no form, with an ending, and with a refusal.
-use Rattle.std.proofs.Common.{◌≡◌, ◌≢◌, ◌≤◌, ◌⊎◌, ◌∙◌, ℕ, List, [], ◌∷◌, ◌++◌, Option, Some, None, Result, Ok, Err, refl, sym, ap, subst, inl, inr, arith}
+use Rattle.std.proofs.Common.{◌≡◌, ◌≢◌, ◌≤◌, ◌⊎◌, ◌∙◌, ℕ, List, Option, Some, None, Ok, Err, refl, sym, ap, subst, inl, inr, arith}
 use Rattle.std.specs.Prelude.{IfSome, IsSomeAnd}
 use Rattle.std.specs.Option.{option_map_or}
 use Rattle.gr_outside.specs.Causes.{Rose}
@@ -15,8 +15,8 @@ use Rattle.imitate.specs.Refusals.{line_of, status_of}
 use Rattle.imitate.specs.Reading.{Plan}
 use Rattle.imitate.specs.Running.{end_status, run_trace, run_end}
 use Rattle.imitate.specs.Contents.{KeepsFiles, KeepsAllBut, GainsPart}
-use Rattle.imitate.specs.Outcome.{reply_to, plan_to, IsRun, IsRefused, IsEnding, PlaysFinish, Shows, TracesRun, TracesSome, Ends, LeavesEnd, LeavesFiles, Fails, Answers}
-use Rattle.imitate.specs.Behaviour.{names_of, HasStatus, KeepsUntraced, FailsAt, IsAnswered, Explains, LeavesBehind}
+use Rattle.imitate.specs.Outcome.{reply_to, plan_to, IsRun, PlaysFinish, Shows, TracesRun, TracesSome, Ends, LeavesEnd, LeavesFiles, Fails, Answers}
+use Rattle.imitate.specs.Behaviour.{names_of, HasStatus, KeepsUntraced, FailsAt, IsAnswered, LeavesBehind}
 use Rattle.imitate.proofs.Quiet.{some-then, some-always, some-flat, keeps-nothing, kept-others, traces-others, part-others}
 use Rattle.imitate.proofs.Runs.{run_end-met, finish-late}
 
@@ -25,12 +25,15 @@ pub usage-left : (files : FilesSeen) (out err err' : SinkSeen) (words : List (Li
     → GainsPart err err' (line_of nobody refusal.Usage) → (code ≢ 1 → Gains err err' (line_of nobody refusal.Usage) ⊎ Rose err.faults err'.faults)
     → LeavesBehind files files out out err err' words code
 usage-left files out err err' words code none status part whole = record {
-  explained = inr (refusal.Usage, record {
-    status = status;
-    fails = subst (λ (o : Option Asked). FailsAt files files out out o refusal.Usage) (sym none) (refl, refl, keeps-nothing files);
-    part = part;
-    whole = whole;
-  });
+  explained = inr (
+    refusal.Usage,
+    record {
+      status = status;
+      fails = subst (λ (o : Option Asked). FailsAt files files out out o refusal.Usage) (sym none) (refl, refl, keeps-nothing files);
+      part = part;
+      whole = whole;
+    },
+  );
   untouched = λ _ _. (refl, keeps-nothing files);
   others = subst (KeepsUntraced files files) (sym none) (keeps-nothing files);
 }
@@ -134,12 +137,15 @@ module _ (words : List (List ℕ)) (asked : Asked) (given : asked_of words ≡ S
     pub refusal-left : (err err' : SinkSeen) (code : ℕ) (why : Refusal) → Fails files files' out out' asked why → (code ≡ status_of why) ⊎ (code ≡ 1) → GainsPart err err' (line_of (names_in asked) why)
         → (code ≢ 1 → Gains err err' (line_of (names_in asked) why) ⊎ Rose err.faults err'.faults) → LeavesBehind files files' out out' err err' words code
     refusal-left err err' code why F status part whole = record {
-      explained = inr (why, record {
-        status = status;
-        fails = subst (λ (o : Option Asked). FailsAt files files' out out' o why) (sym given) F;
-        part = subst (λ (n : FileNames). GainsPart err err' (line_of n why)) named-so part;
-        whole = λ other. subst (λ (n : FileNames). Gains err err' (line_of n why) ⊎ Rose err.faults err'.faults) named-so (whole other);
-      });
+      explained = inr (
+        why,
+        record {
+          status = status;
+          fails = subst (λ (o : Option Asked). FailsAt files files' out out' o why) (sym given) F;
+          part = subst (λ (n : FileNames). GainsPart err err' (line_of n why)) named-so part;
+          whole = λ other. subst (λ (n : FileNames). Gains err err' (line_of n why) ⊎ Rose err.faults err'.faults) named-so (whole other);
+        },
+      );
       untouched = λ low high. fails-untouched code asked why F status low high;
       others = subst (KeepsUntraced files files') (sym given) (left-others asked why F.left);
     }

@@ -20,11 +20,7 @@ pub struct Inputs {
 }
 
 /// Loads the graph, the job and the schedule.
-pub fn load_inputs<F: Files>(
-    alloc: Global,
-    files: &mut F,
-    names: Names,
-) -> Result<Inputs, Refusal>
+pub fn load_inputs<F: Files>(alloc: Global, files: &mut F, names: Names) -> Result<Inputs, Refusal>
     ensures small_graph { IfOk result (λ i. length i.graph.items ≤ 268435456) }
     ensures small_schedule { IfOk result (λ i. length i.schedule.items ≤ 268435456) }
     ensures told { IfOk result (λ i. IfSome (F.seen files.old).told (λ t. plan_to t (named names.entry) ≡ plan_of i.graph.items i.job.items i.schedule.items)) }

@@ -162,12 +162,7 @@ fn graph_line_words(alloc: Global, line: u32, why: &[u8]) -> Result<Vec<u8>, Out
 }
 
 // What is wrong with a line of an input.
-fn line_words(
-    alloc: Global,
-    input: &[u8],
-    line: u32,
-    why: &[u8],
-) -> Result<Vec<u8>, OutOfMemory>
+fn line_words(alloc: Global, input: &[u8], line: u32, why: &[u8]) -> Result<Vec<u8>, OutOfMemory>
     ensures { IfOk result (λ text. text.items ≡ input.now ++ decimal line ++ codes ": " ++ why.now) }
 {
     let mut text = Vec::from_slice(alloc, input)?;

@@ -197,7 +197,11 @@ fn words_and_missing_files(rt: HostRuntime) -> Result<(), Fail> {
         (["load", "0", "1"].as_slice(), 2, usage),
         (["run", "g", "j", "s", "t"].as_slice(), 3, "cannot read g\n"),
         (["run", "j", "j", "s", "t"].as_slice(), 3, "cannot read s\n"),
-        (["run", "j", "j", "j", "j"].as_slice(), 5, "graph line 1: bad line\n"),
+        (
+            ["run", "j", "j", "j", "j"].as_slice(),
+            5,
+            "graph line 1: bad line\n",
+        ),
         (["plain", "g"].as_slice(), 2, usage),
         (["--help"].as_slice(), 2, usage),
         ([].as_slice(), 2, usage),

@@ -35,15 +35,24 @@ pub fn tell<P: VertexProgram>(
     match ending {
         Ending::Done => {
             let text = results(alloc, cluster)?;
-            Ok(Told { ended: Ended::Done, text })
+            Ok(Told {
+                ended: Ended::Done,
+                text,
+            })
         }
         Ending::Lost(list) => {
             let text = lost(alloc, list.as_slice())?;
-            Ok(Told { ended: Ended::Lost, text })
+            Ok(Told {
+                ended: Ended::Lost,
+                text,
+            })
         }
         Ending::Unfinished(rounds) => {
             let text = unfinished(alloc, *rounds)?;
-            Ok(Told { ended: Ended::Early, text })
+            Ok(Told {
+                ended: Ended::Early,
+                text,
+            })
         }
         Ending::TraceFault => Err(Refusal::Trace),
         Ending::NoMemory => Err(Refusal::OutOfMemory),

