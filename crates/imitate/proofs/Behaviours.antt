@@ -1,5 +1,5 @@
 -- What a call comes to: with words of no form, with an ending, and with a refusal.
-use Rattle.std.proofs.Common.{◌≡◌, ◌≢◌, ◌≤◌, ◌⊎◌, ◌∙◌, ℕ, List, [], ◌∷◌, ◌++◌, Option, Some, None, Result, Ok, Err, refl, sym, ap, subst, inl, inr, arith}
+use Rattle.std.proofs.Common.{◌≡◌, ◌≢◌, ◌≤◌, ◌⊎◌, ◌∙◌, ℕ, List, Option, Some, None, Ok, Err, refl, sym, ap, subst, inl, inr, arith}
 use Rattle.std.specs.Prelude.{IfSome, IsSomeAnd}
 use Rattle.std.specs.Option.{option_map_or}
 use Rattle.gr_outside.specs.Causes.{Rose}
@@ -15,8 +15,8 @@ use Rattle.imitate.specs.Refusals.{line_of, status_of}
 use Rattle.imitate.specs.Reading.{Plan}
 use Rattle.imitate.specs.Running.{end_status, run_trace, run_end}
 use Rattle.imitate.specs.Contents.{KeepsFiles, KeepsAllBut, GainsPart}
-use Rattle.imitate.specs.Outcome.{reply_to, plan_to, IsRun, IsRefused, IsEnding, PlaysFinish, Shows, TracesRun, TracesSome, Ends, LeavesEnd, LeavesFiles, Fails, Answers}
-use Rattle.imitate.specs.Behaviour.{names_of, HasStatus, KeepsUntraced, FailsAt, IsAnswered, Explains, LeavesBehind}
+use Rattle.imitate.specs.Outcome.{reply_to, plan_to, IsRun, PlaysFinish, Shows, TracesRun, TracesSome, Ends, LeavesEnd, LeavesFiles, Fails, Answers}
+use Rattle.imitate.specs.Behaviour.{names_of, HasStatus, KeepsUntraced, FailsAt, IsAnswered, LeavesBehind}
 use Rattle.imitate.proofs.Quiet.{some-then, some-always, some-flat, keeps-nothing, kept-others, traces-others, part-others}
 use Rattle.imitate.proofs.Runs.{run_end-met, finish-late}
 

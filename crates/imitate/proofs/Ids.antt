@@ -1,12 +1,11 @@
 -- The ids of a graph that was read have 32 bits.
-use Rattle.std.proofs.Common.{◌≡◌, ◌<◌, ◌^◌, ℕ, List, [], ◌∷◌, Bool, true, false, ◌&&◌, ◌||◌, flat_map, map, nat_lt, refl, sym, subst, ◌∙◌, lit<, ltb-true}
+use Rattle.std.proofs.Common.{◌≡◌, ◌<◌, ◌^◌, ℕ, List, [], ◌∷◌, Bool, true, flat_map, map, nat_lt, refl, sym, subst, ◌∙◌, lit<, ltb-true}
 use Rattle.std.specs.List.{AllByRecursion as Each, list_all, list_any, slice_split}
 use Rattle.std.specs.Char.{is_ascii_digit}
 use Rattle.std.specs.Str.Parse.{digits_value}
 use Rattle.std.proofs.lemmas.List.Elements.{All-from_recursion, All-contains}
 use Rattle.gr_base.specs.Rising.{has}
 use Rattle.gr_base.proofs.PlaceTests.{has-contains}
-use Rattle.gr_edges.specs.declared.line.LineFound.{LineFound}
 use Rattle.gr_edges.specs.Fields.{is_line_end, number_of, is_large, is_bad, is_comment, of_numbers, of_fields, fields_of, without_return_of, line_of}
 use Rattle.gr_edges.specs.Reading.{lines_of, ids_of_line, joined, ids_of, edges_of, vertices_of}
 use Rattle.gr_edges.specs.Vertices.{ids, vertex_of}

@@ -1,5 +1,5 @@
 -- The lines that a schedule's text says: they name places that are there, and each is built where all are.
-use Rattle.std.proofs.Common.{◌≡◌, ℕ, List, [], ◌∷◌, ◌++◌, Bool, true, false, Option, Some, None, map, refl, ◌&&◌, ◌==◌, slice_index}
+use Rattle.std.proofs.Common.{◌≡◌, ℕ, List, [], ◌∷◌, Bool, true, Option, Some, None, map, refl, ◌==◌, slice_index}
 use Rattle.std.specs.Prelude.{IsTrue}
 use Rattle.std.specs.List.{All, AllByRecursion as Each, list_all, slice_split}
 use Rattle.std.proofs.lemmas.Bool.{false≢true}

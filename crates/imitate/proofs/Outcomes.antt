@@ -1,10 +1,9 @@
 -- What a command comes to where it fails: in its loads, by what was read, or in its writes.
-use Rattle.std.proofs.Common.{◌≡◌, ◌⊎◌, ◌∙◌, ◌<◌, ℕ, List, Bool, true, false, Option, Some, None, Result, Ok, Err, refl, sym, ap, subst, inl, inr}
+use Rattle.std.proofs.Common.{◌≡◌, ◌⊎◌, ℕ, List, Option, Some, None, Result, Ok, Err, refl, sym, subst, inl, inr}
 use Rattle.std.specs.Prelude.{IfSome}
 use Rattle.std.specs.List.{list_all}
-use Rattle.gr_outside.specs.Causes.{Rose}
 use Rattle.gr_outside.specs.Files.{FilesSeen, FilesTold}
-use Rattle.gr_outside.specs.Sink.{SinkSeen, Gains}
+use Rattle.gr_outside.specs.Sink.{SinkSeen}
 use Rattle.gr_edges.specs.declared.fault.GraphFault.{GraphFault}
 use Rattle.gr_edges.specs.declared.fault.GraphFault.TheVariants as graph_fault
 use Rattle.gr_edges.specs.Reading as edges
@@ -22,10 +21,10 @@ use Rattle.imitate.specs.declared.refusal.Refusal.{Refusal}
 use Rattle.imitate.specs.declared.refusal.Refusal.TheVariants as refusal
 use Rattle.imitate.specs.Words.{FileNames, Asked, names_in}
 use Rattle.imitate.specs.Refusals.{graph_refusal, job_refusal, schedule_refusal}
-use Rattle.imitate.specs.Reading.{Task, Plan, after_graph, after_job, task_of, if_built, after_schedule, after_task, plan_of, result_or_refusal, reply_of}
+use Rattle.imitate.specs.Reading.{Task, after_graph, after_job, task_of, if_built, after_schedule, after_task, plan_of, result_or_refusal, reply_of}
 use Rattle.imitate.specs.Contents.{content, KeepsFiles}
 use Rattle.imitate.specs.Loading.{IsLoadCause}
-use Rattle.imitate.specs.Outcome.{reply_to, plan_to, IsRefused, LeavesFiles, IsCausedBy, LeavesOutput, Fails}
+use Rattle.imitate.specs.Outcome.{reply_to, plan_to, IsRefused, Fails}
 use Rattle.imitate.proofs.Quiet.{some-both}
 
 -- a refusal of what was read

@@ -1,9 +1,8 @@
 -- A run over files that tell their content: what it comes to, by what was read and how it was played.
-use Rattle.std.proofs.Common.{◌≡◌, ◌⊎◌, ◌∙◌, ◌≤◌, ℕ, List, length, take, Bool, true, false, Option, Some, None, Result, Ok, Err, refl, sym, ap, subst, inl, inr}
+use Rattle.std.proofs.Common.{◌≡◌, ◌⊎◌, ◌∙◌, ℕ, List, Option, Some, None, Result, Ok, Err, refl, ap, subst, inl, inr}
 use Rattle.std.specs.Prelude.{IfSome, is_some}
 use Rattle.std.specs.List.{list_all}
-use Rattle.gr_outside.specs.Causes.{Rose}
-use Rattle.gr_outside.specs.Files.{FilesSeen, FilesTold}
+use Rattle.gr_outside.specs.Files.{FilesSeen}
 use Rattle.gr_outside.specs.Sink.{SinkSeen, Gains}
 use Rattle.gr_sched.specs.declared.fault.SchedFault.{SchedFault}
 use Rattle.gr_sched.specs.declared.line.LineFound.{LineFound}
@@ -11,18 +10,18 @@ use Rattle.gr_sched.specs.declared.event.Line.{Line}
 use Rattle.gr_sched.specs.Reading as sched
 use Rattle.gr_law_runs.specs.Undisturbed.{is_plain_line}
 use Rattle.gr_lists.proofs.Tests.{by_test}
-use Rattle.gr_play.specs.Tracing.{Traces, TracesPart}
+use Rattle.gr_play.specs.Tracing.{TracesPart}
 use Rattle.imitate.specs.declared.ended.Ended.{Ended}
 use Rattle.imitate.specs.declared.ended.Ended.TheVariants as ended
 use Rattle.imitate.specs.declared.refusal.Refusal.{Refusal}
 use Rattle.imitate.specs.declared.refusal.Refusal.TheVariants as refusal
 use Rattle.imitate.specs.Words.{FileNames, Asked}
 use Rattle.imitate.specs.Reading.{Task, Plan, task_of, if_built, after_schedule, after_task, plan_of, result_of, result_or_refusal, reply_of}
-use Rattle.imitate.specs.Running.{program_in, begin, run_trace, run_text}
+use Rattle.imitate.specs.Running.{program_in, begin, run_trace}
 use Rattle.imitate.specs.Contents.{KeepsFiles, GainsPart}
 use Rattle.imitate.specs.Loading.{IsQuiet}
 use Rattle.imitate.specs.Playing.{IsPlayed, IsUnplayed}
-use Rattle.imitate.specs.Outcome.{reply_to, plan_to, IsRun, IsText, Shows, ShowsPart, TracesSome, Ends, Fails}
+use Rattle.imitate.specs.Outcome.{reply_to, plan_to, IsText, Shows, ShowsPart, TracesSome, Ends, Fails}
 use Rattle.imitate.proofs.Quiet.{some-then, quiet-kept, quiet-write, quiet-traces, quiet-part, traces-part}
 use Rattle.imitate.proofs.Outcomes.{reply-of_reading, plan-of_reading, refused-fails}
 

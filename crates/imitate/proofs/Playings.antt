@@ -13,7 +13,6 @@ use Rattle.gr_outside.specs.Files.{FilesSeen}
 use Rattle.gr_program.specs.Program.{Program, ProgramLaws}
 use Rattle.gr_program.specs.Result.{done_text, result_text}
 use Rattle.gr_edges.specs.declared.graph.Graph.{Graph}
-use Rattle.gr_edges.specs.declared.graph.VertexInfo.{VertexInfo}
 use Rattle.gr_edges.specs.Vertices.{id_of, ids}
 use Rattle.gr_job.specs.declared.job.Job.{Job}
 use Rattle.gr_job.specs.declared.job.ProgramChoice.{ProgramChoice}

@@ -1,6 +1,6 @@
 -- What is read comes to, once the job, the graph and then the schedule is read.
-use Rattle.std.proofs.Common.{◌≡◌, ◌≢◌, ◌⊎◌, ◌∙◌, ℕ, List, Option, Some, None, refl, sym, ap, inl, inr}
-use Rattle.std.specs.Prelude.{Result, Ok, Err, true, false}
+use Rattle.std.proofs.Common.{◌≡◌, ◌≢◌, ◌⊎◌, ◌∙◌, ℕ, List, Some, None, refl, sym, ap, inl, inr}
+use Rattle.std.specs.Prelude.{Ok, Err, true, false}
 use Rattle.std.specs.List.{list_all}
 use Rattle.gr_base.specs.declared.records.Edge.{Edge}
 use Rattle.gr_edges.specs.declared.fault.GraphFault.{GraphFault}
@@ -18,9 +18,8 @@ use Rattle.gr_sched.specs.Reading as sched
 use Rattle.gr_law_runs.specs.Undisturbed.{is_plain_line}
 use Rattle.imitate.specs.declared.refusal.Refusal.{Refusal}
 use Rattle.imitate.specs.declared.refusal.Refusal.TheVariants as refusal
-use Rattle.imitate.specs.Chosen.{chosen_text}
 use Rattle.imitate.specs.Refusals.{graph_refusal, job_refusal, schedule_refusal}
-use Rattle.imitate.specs.Reading.{Task, Plan, after_graph, after_job, task_of, if_built, after_schedule, after_task, plan_of, result_of, result_or_refusal, reply_of}
+use Rattle.imitate.specs.Reading.{Task, after_graph, after_job, task_of, if_built, after_schedule, after_task, plan_of, result_of, result_or_refusal, reply_of}
 
 pub task-job_refused : (graph job : List ℕ) (fault : JobFault) → (fault ≢ job_fault.OutOfMemory → job_of job ≡ Err fault)
     → (job_refusal fault ≡ refusal.OutOfMemory) ⊎ (task_of graph job ≡ Err (job_refusal fault))

@@ -1,5 +1,5 @@
 -- Whole runs: two of one plan end alike, and one whose last line is `finish` does not end early.
-use Rattle.std.proofs.Common.{◌≡◌, ◌∙◌, ℕ, zero, suc, List, [], ◌∷◌, ◌++◌, true, None, refl, sym, ap, subst, inl}
+use Rattle.std.proofs.Common.{◌≡◌, ◌∙◌, ℕ, zero, suc, List, [], ◌∷◌, ◌++◌, true, refl, sym, ap, subst, inl}
 use Rattle.gr_program.specs.Program.{Program}
 use Rattle.gr_sched.specs.declared.event.Line.{Line}
 use Rattle.gr_sched.specs.declared.event.Line.TheVariants as line
@@ -10,7 +10,6 @@ use Rattle.gr_cluster.specs.Tables.{Cluster}
 use Rattle.gr_cluster.specs.Runs.{Position, position_by, next_position, position_after, IsWhole}
 use Rattle.gr_cluster.specs.Ending as cluster
 use Rattle.gr_law_runs.proofs.Finish.{after-finishes, whole-over}
-use Rattle.imitate.specs.declared.ended.Ended.{Ended}
 use Rattle.imitate.specs.declared.ended.Ended.TheVariants as ended
 use Rattle.imitate.specs.Reading.{Plan}
 use Rattle.imitate.specs.Running.{ended_by, stands_after, program_in, begin, IsWholeAfter, run_end}

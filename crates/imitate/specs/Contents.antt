@@ -1,5 +1,5 @@
 -- What files and sinks told before a call and after it.
-use Rattle.std.specs.Prelude.{◌≡◌, ℕ, List, [], take, Option, IfSome, IsSomeAnd, unwrap_or}
+use Rattle.std.specs.Prelude.{◌≡◌, ℕ, List, [], take, IfSome, IsSomeAnd, unwrap_or}
 use Rattle.gr_outside.specs.Files.{FilesSeen, FilesTold, KeepsOthers, bytes_of}
 use Rattle.gr_outside.specs.Sink.{SinkSeen, Gains}
 

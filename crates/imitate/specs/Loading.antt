@@ -1,7 +1,7 @@
 -- The loading of an input.
-use Rattle.std.specs.Prelude.{◌≡◌, ◌<◌, ◌≤◌, ℕ, List, length, Option, Some, Result, IfOk, IfErr, OnOk, IfSome}
+use Rattle.std.specs.Prelude.{◌≡◌, ◌<◌, ◌≤◌, ℕ, List, length, Some, Result, IfOk, IfErr, OnOk, IfSome}
 use Rattle.gr_outside.specs.Causes.{Rose}
-use Rattle.gr_outside.specs.Files.{FilesSeen, bytes_of, longest}
+use Rattle.gr_outside.specs.Files.{FilesSeen, longest}
 use Rattle.imitate.specs.declared.refusal.Input.{Input}
 use Rattle.imitate.specs.declared.refusal.Refusal.{Refusal}
 use Rattle.imitate.specs.declared.refusal.Refusal.TheVariants as refusal

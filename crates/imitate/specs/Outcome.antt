@@ -1,5 +1,5 @@
 -- What a command comes to over the files as they are: a result, an ending, or a refusal.
-use Rattle.std.specs.Prelude.{◌≡◌, ◌<◌, ◌⊎◌, ℕ, List, [], ◌∷◌, ◌++◌, length, Option, Some, None, Result, Ok, Err, IfOk, IfErr, IfSome}
+use Rattle.std.specs.Prelude.{◌≡◌, ◌⊎◌, ℕ, List, [], ◌∷◌, ◌++◌, Result, Ok, Err, IfOk, IfErr, IfSome}
 use Rattle.gr_outside.specs.Causes.{Rose}
 use Rattle.gr_outside.specs.Files.{FilesSeen, FilesTold}
 use Rattle.gr_outside.specs.Sink.{SinkSeen, Gains}

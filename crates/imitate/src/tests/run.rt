@@ -285,7 +285,7 @@ fn lines_of_traces(rt: HostRuntime) -> Result<(), Fail> {
         "delivered 2 from 1 to 0 epoch 0 round 0 gather taken",
         "delivered 3 from 1 to 2 epoch 0 round 0 gather taken",
         "delivered 4 from 2 to 0 epoch 0 round 0 gather taken",
-        "delivered 5 from 2 to 1 epoch 0 round 0 gather taken",
+        "delivered 7 from 2 to 1 epoch 0 round 0 gather taken",
     ] {
         assert!(rt; has_line(none.trace(), line), "{line}");
     }

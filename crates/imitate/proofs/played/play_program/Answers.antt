@@ -1,4 +1,4 @@
-use Rattle.std.proofs.Common.{◌≡◌, ◌<◌, ◌^◌, arith, inl, inr}
+use Rattle.std.proofs.Common.{◌<◌, ◌^◌, arith, inl, inr}
 use Rattle.gr_edges.specs.Vertices.{ids}
 use Rattle.gr_core.specs.Loaded.{setting_of}
 use Rattle.gr_cluster.specs.Load.{load}

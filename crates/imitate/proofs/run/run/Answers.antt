@@ -1,5 +1,4 @@
-use Rattle.std.proofs.Common.{◌≡◌, ◌∙◌, Result, Ok}
-use Rattle.std.specs.Prelude.{IfSome}
+use Rattle.std.proofs.Common.{◌≡◌, ◌∙◌, Ok}
 use Rattle.imitate.specs.Words.{FileNames, named}
 use Rattle.imitate.specs.Reading.{plan_of, plan_in}
 use Rattle.imitate.specs.Outcome.{plan_to}

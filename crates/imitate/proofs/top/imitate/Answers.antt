@@ -1,5 +1,5 @@
-use Rattle.std.proofs.Common.{◌≡◌, ◌∙◌, ℕ, List, Bor, map, refl, sym, subst}
-use Rattle.imitate.specs.Words.{FileNames, asked_by, names_in, nobody}
+use Rattle.std.proofs.Common.{ℕ, List, Bor, map, refl}
+use Rattle.imitate.specs.Words.{asked_by}
 use Rattle.imitate.proofs.Behaviours.{usage-left, end-answered, refusal-left}
 use Rattle.imitate.proofs.top.imitate.Goals as goal
 
