@@ -111,7 +111,12 @@ impl<P: VertexProgram> Stepped<P> {
         match self.cluster.mode() {
             Mode::Done => {
                 let values = self.cluster.results()?;
-                push_results(self.alloc, &mut text, self.cluster.rounds(), values.as_slice())?;
+                push_results(
+                    self.alloc,
+                    &mut text,
+                    self.cluster.rounds(),
+                    values.as_slice(),
+                )?;
             }
             _ => {}
         }
@@ -150,12 +155,7 @@ fn push_copy<V: Datum>(
     copy: &VertexCopy<V>,
 ) -> Result<(), OutOfMemory> {
     let mut sign = b' ';
-    for number in [
-        copy.vertex,
-        copy.indeg,
-        copy.outdeg,
-        u32::from(copy.master),
-    ] {
+    for number in [copy.vertex, copy.indeg, copy.outdeg, u32::from(copy.master)] {
         text.push(sign)?;
         push_number(alloc, text, u64::from(number))?;
         sign = b':';

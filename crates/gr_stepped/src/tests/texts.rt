@@ -18,11 +18,26 @@ pub(crate) fn round_on_two_places(alloc: Global, k: u8, told: &Told) -> Result<V
     exchange(alloc, &mut text, k, 2, b"update", told.update)?;
     exchange(alloc, &mut text, k, 4, b"signal", [none, none])?;
     exchange(alloc, &mut text, k, 6, b"call", told.call)?;
-    push(alloc, &mut text, b"work 0 compute end\nwork 0 ready ", u64::from(told.due[0]))?;
-    push(alloc, &mut text, b"\nwork 1 compute end\nwork 1 ready ", u64::from(told.due[1]))?;
+    push(
+        alloc,
+        &mut text,
+        b"work 0 compute end\nwork 0 ready ",
+        u64::from(told.due[0]),
+    )?;
+    push(
+        alloc,
+        &mut text,
+        b"\nwork 1 compute end\nwork 1 ready ",
+        u64::from(told.due[1]),
+    )?;
     push(alloc, &mut text, b"\nbarrier committed ", u64::from(k) + 1)?;
     push(alloc, &mut text, b" round ", u64::from(k) + 1)?;
-    push(alloc, &mut text, b" due ", u64::from(told.due[0]) + u64::from(told.due[1]))?;
+    push(
+        alloc,
+        &mut text,
+        b" due ",
+        u64::from(told.due[0]) + u64::from(told.due[1]),
+    )?;
     text.push(b'\n')?;
     Ok(text)
 }
