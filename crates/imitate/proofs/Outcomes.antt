@@ -1,4 +1,4 @@
--- What a command comes to where it fails: in its loads, by what was read, or in its writes.
+-- What a command comes to where what was read is refused.
 use Rattle.std.proofs.Common.{◌≡◌, ◌⊎◌, ℕ, List, Option, Some, None, Result, Ok, Err, refl, sym, subst, inl, inr}
 use Rattle.std.specs.Prelude.{IfSome}
 use Rattle.std.specs.List.{list_all}
@@ -19,12 +19,11 @@ use Rattle.gr_law_runs.specs.Undisturbed.{is_plain_line}
 use Rattle.gr_lists.proofs.Tests.{by_test}
 use Rattle.imitate.specs.declared.refusal.Refusal.{Refusal}
 use Rattle.imitate.specs.declared.refusal.Refusal.TheVariants as refusal
-use Rattle.imitate.specs.Words.{FileNames, Asked, names_in}
+use Rattle.imitate.specs.Words.{FileNames, Asked}
 use Rattle.imitate.specs.Refusals.{graph_refusal, job_refusal, schedule_refusal}
 use Rattle.imitate.specs.Reading.{Task, after_graph, after_job, task_of, if_built, after_schedule, after_task, plan_of, result_or_refusal, reply_of}
 use Rattle.imitate.specs.Contents.{content, KeepsFiles}
-use Rattle.imitate.specs.Loading.{IsLoadCause}
-use Rattle.imitate.specs.Outcome.{reply_to, plan_to, IsRefused, Fails}
+use Rattle.imitate.specs.Outcome.{reply_to, IsRefused, Fails}
 use Rattle.imitate.proofs.Quiet.{some-both}
 
 -- a refusal of what was read
@@ -103,38 +102,24 @@ pub reply-told : (o : Option FilesTold) (names : FileNames) (graph job : List �
 reply-told o names graph job g j =
     some-both o (λ t. content t names.graph ≡ graph) (λ t. content t names.job ≡ job) (λ t. reply_to t names ≡ reply_of graph job) g j (λ t eg ej i. reply_of (eg i) (ej i))
 
-pub plan-told : (o : Option FilesTold) (names : FileNames) (graph job schedule : List ℕ)
-    → IfSome o (λ t. content t names.graph ≡ graph) → IfSome o (λ t. content t names.job ≡ job) → IfSome o (λ t. content t names.schedule ≡ schedule)
-    → IfSome o (λ t. plan_to t names ≡ plan_of graph job schedule)
-plan-told o names graph job schedule g j s =
-    some-both o (λ t. (content t names.graph ≡ graph) × (content t names.job ≡ job)) (λ t. content t names.schedule ≡ schedule) (λ t. plan_to t names ≡ plan_of graph job schedule)
-    (some-both o (λ t. content t names.graph ≡ graph) (λ t. content t names.job ≡ job) (λ t. (content t names.graph ≡ graph) × (content t names.job ≡ job)) g j (λ t eg ej. (eg, ej)))
-    s (λ t e es i. plan_of (e.0 i) (e.1 i) (es i))
-
 module _ (files files' : FilesSeen) (out : SinkSeen) (kept : KeepsFiles files files') where
-  -- a load failed
-  pub load-fails : (asked : Asked) (why : Refusal) → IsLoadCause files files' (names_in asked) why → Fails files files' out out asked why
-  load-fails (Asked.Plain names) refusal.OutOfMemory h = record { cause = tt; output = inl refl; left = kept }
-  load-fails (Asked.Plain names) (refusal.Unreadable input) h = record { cause = h; output = refl; left = kept }
-  load-fails (Asked.Plain names) (refusal.TooLong input) h = record { cause = h; output = refl; left = kept }
-  load-fails (Asked.Plain names) other h = absurd h
-  load-fails (Asked.Run names) refusal.OutOfMemory h = record { cause = tt; output = inl refl; left = inl kept }
-  load-fails (Asked.Run names) (refusal.Unreadable input) h = record { cause = h; output = refl; left = kept }
-  load-fails (Asked.Run names) (refusal.TooLong input) h = record { cause = h; output = refl; left = kept }
-  load-fails (Asked.Run names) other h = absurd h
+  -- memory ran out
+  at-memory : (asked : Asked) → Fails files files' out out asked refusal.OutOfMemory
+  at-memory (Asked.Plain names) = record { cause = tt; output = inl refl; left = kept }
+  at-memory (Asked.Run names) = record { cause = tt; output = inl refl; left = inl kept }
 
   -- what was read is refused
   abbrev IsRead : Asked → Refusal → Type 0
   IsRead asked why = IsOfReading why × IfSome files.told (λ t. IsRefused t asked why)
 
   read-fails : (asked : Asked) (why : Refusal) → IsRead asked why → Fails files files' out out asked why
-  read-fails (Asked.Plain names) refusal.OutOfMemory h = record { cause = tt; output = inl refl; left = kept }
+  read-fails (Asked.Plain names) refusal.OutOfMemory h = at-memory (Asked.Plain names)
   read-fails (Asked.Plain names) (refusal.Graph fault) h = record { cause = h.1; output = refl; left = kept }
   read-fails (Asked.Plain names) (refusal.Job fault) h = record { cause = h.1; output = refl; left = kept }
   read-fails (Asked.Plain names) (refusal.Schedule fault) h = record { cause = h.1; output = refl; left = kept }
   read-fails (Asked.Plain names) refusal.NotBuilt h = record { cause = h.1; output = refl; left = kept }
   read-fails (Asked.Plain names) other h = absurd h.0
-  read-fails (Asked.Run names) refusal.OutOfMemory h = record { cause = tt; output = inl refl; left = inl kept }
+  read-fails (Asked.Run names) refusal.OutOfMemory h = at-memory (Asked.Run names)
   read-fails (Asked.Run names) (refusal.Graph fault) h = record { cause = h.1; output = refl; left = kept }
   read-fails (Asked.Run names) (refusal.Job fault) h = record { cause = h.1; output = refl; left = kept }
   read-fails (Asked.Run names) (refusal.Schedule fault) h = record { cause = h.1; output = refl; left = kept }
@@ -142,7 +127,7 @@ module _ (files files' : FilesSeen) (out : SinkSeen) (kept : KeepsFiles files fi
   read-fails (Asked.Run names) other h = absurd h.0
 
   memory-fails : (asked : Asked) (why : Refusal) → why ≡ refusal.OutOfMemory → Fails files files' out out asked why
-  memory-fails asked why e = subst (λ (w : Refusal). Fails files files' out out asked w) (sym e) (load-fails asked refusal.OutOfMemory tt)
+  memory-fails asked why e = subst (λ (w : Refusal). Fails files files' out out asked w) (sym e) (at-memory asked)
 
   pub refused-fails : (asked : Asked) (why : Refusal) → (why ≡ refusal.OutOfMemory) ⊎ IsRead asked why → Fails files files' out out asked why
   refused-fails asked why is = elim is [ inl e ↦ memory-fails asked why e | inr h ↦ read-fails asked why h ]

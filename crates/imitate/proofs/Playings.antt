@@ -84,14 +84,6 @@ graph-is graph fit edges vertices =
 
 -- only the mode Done is told as done
 module _ {V A : Type 0} (c : Cluster V A) where
-  pub ending-done : (m : Mode) → cluster.Ending.Done ≡ cluster.ending_by c m → m ≡ mode.Done
-  ending-done mode.Done e = refl
-  ending-done mode.Lost e = absurd (cc)
-  ending-done mode.Running e = absurd (cc)
-  ending-done mode.Failed e = absurd (cc)
-  ending-done mode.Recovering e = absurd (cc)
-  ending-done mode.Repairing e = absurd (cc)
-
   pub ended-done : (m : Mode) → ended_by (cluster.ending_by c m) ≡ ended.Done → m ≡ mode.Done
   ended-done mode.Done e = refl
   ended-done mode.Lost e = absurd (cc)

@@ -1,18 +1,14 @@
 -- Files that tell their content: what they go on telling over loads, and over a run that leaves them.
-use Rattle.std.proofs.Common.{◌≡◌, ◌<◌, ◌∙◌, ℕ, List, length, take, Bool, false, Option, Some, None, is_some, refl, sym, ap, subst, arith}
+use Rattle.std.proofs.Common.{◌≡◌, ◌∙◌, ℕ, List, length, take, Bool, false, Option, Some, None, is_some, refl, sym, ap, subst, arith}
 use Rattle.std.proofs.lemmas.Bool.{false≢true}
 use Rattle.std.proofs.lemmas.List.{take_all}
 use Rattle.std.specs.Prelude.{IfSome, IsSomeAnd}
 use Rattle.gr_outside.specs.Causes.{Rose}
-use Rattle.gr_outside.specs.Files.{FilesSeen, FilesTold, Named, HasWritten, LetsGo, KeepsOthers, bytes_of, longest}
+use Rattle.gr_outside.specs.Files.{FilesSeen, FilesTold, Named, HasWritten, LetsGo, KeepsOthers, bytes_of}
 use Rattle.gr_lists.proofs.Tests.{by_test}
 use Rattle.gr_play.specs.Tracing.{Traces, TracesPart}
-use Rattle.imitate.specs.declared.refusal.Refusal.{Refusal}
-use Rattle.imitate.specs.declared.refusal.Refusal.TheVariants as refusal
-use Rattle.imitate.specs.Words.{FileNames}
-use Rattle.imitate.specs.Refusals.{name_of}
-use Rattle.imitate.specs.Contents.{content, KeepsFiles, KeepsAllBut}
-use Rattle.imitate.specs.Loading.{IsQuiet, IsLoadCause}
+use Rattle.imitate.specs.Contents.{KeepsFiles, KeepsAllBut}
+use Rattle.imitate.specs.Loading.{IsQuiet}
 
 some_back : (o r : Option FilesTold) (P : FilesTold → Type 0) → IfSome o (λ t. r ≡ Some t) → IfSome r P → IfSome o P
 some_back None r P e h = tt
@@ -40,28 +36,8 @@ module _ (a b : FilesSeen) (Q : IsQuiet a b) where
   pub quiet-some : (P : FilesTold → Type 0) → IfSome b.told P → IfSome a.told P
   quiet-some P h = some_back a.told b.told P Q.told h
 
-  pub quiet-quiet : (c : FilesSeen) → IsQuiet b c → IsQuiet a c
-  quiet-quiet c R = record {
-    load_faults = R.load_faults ∙ Q.load_faults;
-    long_loads = R.long_loads ∙ Q.long_loads;
-    write_faults = R.write_faults ∙ Q.write_faults;
-    told = quiet-some (λ t. c.told ≡ Some t) R.told;
-  }
-
   pub quiet-kept : (c : FilesSeen) → KeepsFiles b c → KeepsFiles a c
   quiet-kept c h = quiet-some (λ t. IsSomeAnd c.told (λ u. u.files ≡ t.files)) h
-
-  pub quiet-cause : (c : FilesSeen) (names : FileNames) (why : Refusal) → IsLoadCause b c names why → IsLoadCause a c names why
-  quiet-cause c names refusal.OutOfMemory h = tt
-  quiet-cause c names (refusal.Unreadable input) h = (
-    subst (λ (n : ℕ). Rose n c.load_faults) Q.load_faults h.0,
-    quiet-some (λ t. IfSome c.told (λ u. u.failed ≡ Some (name_of names input))) h.1,
-  )
-  quiet-cause c names (refusal.TooLong input) h = (
-    subst (λ (n : ℕ). Rose n c.long_loads) Q.long_loads h.0,
-    quiet-some (λ t. longest < length (content t (name_of names input))) h.1,
-  )
-  quiet-cause c names other h = absurd h
 
   pub quiet-write : (c : FilesSeen) → Rose b.write_faults c.write_faults → Rose a.write_faults c.write_faults
   quiet-write c h = subst (λ (n : ℕ). Rose n c.write_faults) Q.write_faults h
@@ -83,9 +59,6 @@ keeps_same (Some t) = refl
 
 pub keeps-nothing : (a : FilesSeen) → KeepsFiles a a
 keeps-nothing a = keeps_same a.told
-
-pub keeps-same : (a b : FilesSeen) → b ≡ a → KeepsFiles a b
-keeps-same a b e = subst (KeepsFiles a) (sym e) (keeps-nothing a)
 
 -- a text is all of its first part
 traces_whole : (o r : Option FilesTold) (name text : List ℕ) → IfSome o (λ t. IsSomeAnd r (HasWritten t name text))
