@@ -8,7 +8,7 @@ ghost use Rattle.gr_arcs.specs.Layers.{EdgesRise, number_of};
 
 use crate::copies::{copy_over, make_room};
 use crate::end::End;
-use crate::index::{index_edges, nth_at};
+use crate::index::{edges_at, index_edges};
 use gr_base::{NumberedEdge, OutOfMemory};
 use std::alloc::Global;
 use std::marker::Model;
@@ -84,6 +84,22 @@ impl Arcs {
         holds_number(self.pending.as_slice(), number)
     }
 
+    /// The stable edges into a vertex, in rising number, found in time logarithmic in the number of edges.
+    pub fn edges_into(&self, v: u32) -> &[NumberedEdge]
+        ensures edges { result.now ≡ filter (λ e. e.edge.dst == v) self.now.stable }
+        ensures rise { EdgesRise self.now }
+    {
+        edges_at(self.by_target.as_slice(), End::Target, v)
+    }
+
+    /// The stable edges out of a vertex, in rising number, found in time logarithmic in the number of edges.
+    pub fn edges_out_of(&self, v: u32) -> &[NumberedEdge]
+        ensures edges { result.now ≡ filter (λ e. e.edge.src == v) self.now.stable }
+        ensures rise { EdgesRise self.now }
+    {
+        edges_at(self.by_source.as_slice(), End::Source, v)
+    }
+
     /// The `i`-th stable edge into a vertex, counted from 0 in rising number, in time logarithmic in the number
     /// of edges.
     pub fn into_vertex(&self, v: u32, i: usize) -> Option<NumberedEdge>
@@ -91,7 +107,7 @@ impl Arcs {
         ensures next_fits { IfSome result (λ _. i + 1 < 2 ^ 64) }
         ensures rise { EdgesRise self.now }
     {
-        nth_at(self.by_target.as_slice(), End::Target, v, i)
+        self.edges_into(v).get(i).copied()
     }
 
     /// The `i`-th stable edge out of a vertex, counted from 0 in rising number, in time logarithmic in the number
@@ -101,7 +117,7 @@ impl Arcs {
         ensures next_fits { IfSome result (λ _. i + 1 < 2 ^ 64) }
         ensures rise { EdgesRise self.now }
     {
-        nth_at(self.by_source.as_slice(), End::Source, v, i)
+        self.edges_out_of(v).get(i).copied()
     }
 
     /// Adds a pending edge, whose number is not pending yet. An edge above all others costs amortized constant time

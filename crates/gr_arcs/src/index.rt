@@ -23,28 +23,21 @@ pub fn index_edges(index: &mut Vec<NumberedEdge>, end: End, edges: &[NumberedEdg
     index.sort_unstable_by_key(|edge| (end.of(&edge.edge), edge.number));
 }
 
-/// How many edges of an index have at this end a vertex below this one.
-fn first_at(index: &[NumberedEdge], end: End, v: u32) -> usize
+/// How many edges of an index have at this end a vertex below a number.
+fn count_below(index: &[NumberedEdge], end: End, bound: u64) -> usize
     requires { IsNonDecreasingBy (λ e. vertex_at end e.edge) index.now }
-    ensures { result ≡ prefix_len (λ e. nat_lt (vertex_at end e.edge) v) index.now }
+    ensures count { result ≡ prefix_len (λ e. nat_lt (vertex_at end e.edge) bound) index.now }
+    ensures within { result ≤ length index.now }
 {
-    index.partition_point(|edge| end.of(&edge.edge) < v)
+    index.partition_point(|edge| u64::from(end.of(&edge.edge)) < bound)
 }
 
-/// The `i`-th edge of an index that has this vertex at this end, in logarithmic time.
-pub fn nth_at(index: &[NumberedEdge], end: End, v: u32, i: usize) -> Option<NumberedEdge>
+/// The edges of an index that have this vertex at this end, in logarithmic time.
+pub fn edges_at(index: &[NumberedEdge], end: End, v: u32) -> &[NumberedEdge]
     requires { IsNonDecreasingBy (λ e. vertex_at end e.edge) index.now }
-    ensures edge { result ≡ slice_get (filter (λ e. vertex_at end e.edge == v) index.now) i }
-    ensures next_fits { IfSome result (λ _. i + 1 < 2 ^ 64) }
+    ensures { result.now ≡ filter (λ e. vertex_at end e.edge == v) index.now }
 {
-    let first = first_at(index, end, v);
-    if i >= index.len() - first {
-        return None;
-    }
-    let edge = index[first + i];
-    if end.of(&edge.edge) == v {
-        Some(edge)
-    } else {
-        None
-    }
+    let v = u64::from(v);
+    let rest = &index[count_below(index, end, v)..];
+    &rest[..count_below(rest, end, v + 1)]
 }

@@ -30,7 +30,6 @@ pub record NeedsHold {V A : Type 0} (P : Program V A) (p : ℕ) (w : RoundView) 
   pub signals : SignalsRise h.inbox w.epoch (without_place w.parties p)
   pub calls : CallsRise h.inbox w.epoch (without_place w.parties p)
   pub pending : map vertex_of h.pending ≡ map vertex_of h.stable
-  pub few : length h.pending < 2 ^ 32
 
 -- a computed stage of a host is still to be sent to one of the others
 pub record MaySend {V A : Type 0} (others : List ℕ) (h : Host V A) : Type 0 where

@@ -172,7 +172,6 @@ impl<P: VertexProgram> Host<P> {
         requires signals { SignalsRise self.old.inbox view.now.epoch (without_place view.now.parties me) }
         requires calls { CallsRise self.old.inbox view.now.epoch (without_place view.now.parties me) }
         requires pending { map vertex_of self.old.pending ≡ map vertex_of self.old.stable }
-        requires few { length self.old.pending < 2 ^ 32 }
         ensures answer { IfOk result (λ act. act ≡ answer_of (P.program_of program.now) me view.now self.old (next_of me view.now self.old)) }
         ensures host { OnOk result (self.new ≡ acted_host (P.program_of program.now) me view.now self.old (next_of me view.now self.old)) }
         ensures told { IsTrue (is_told (next_of me view.now self.old)) → IsOk result }

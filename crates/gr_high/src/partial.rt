@@ -100,7 +100,7 @@ fn part_of<P: VertexProgram>(
 fn has_edge_into(arcs: &Arcs, v: u32) -> bool
     ensures { result ≡ list_any (into v) arcs.now.stable }
 {
-    arcs.into_vertex(v, 0).is_some()
+    !arcs.edges_into(v).is_empty()
 }
 
 /// The part of a vertex.

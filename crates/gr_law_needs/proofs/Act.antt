@@ -22,7 +22,7 @@ use Rattle.gr_lists.proofs.Any.{find-any}
 use Rattle.gr_law_round.proofs.Running.{shows-stable, steady-here}
 use Rattle.gr_law_round.proofs.Compute.{at-epoch, inbox-good, pending-here}
 use Rattle.gr_law_needs.specs.Law.{MayAct}
-use Rattle.gr_law_needs.proofs.Rows.{sources-ready, values-fit, vertices-staged, staged-few}
+use Rattle.gr_law_needs.proofs.Rows.{sources-ready, values-fit, vertices-staged}
 use Rattle.gr_law_needs.proofs.Bodies.{gathers-fit, updates-fit, signals-rise, calls-rise}
 
 -- with every commit installed and the epoch adopted, what is left is the work of a round
@@ -60,7 +60,6 @@ module _ {V A : Type 0} (P : Program V A) (L : ProgramLaws P) (t : Truth V) (c :
         signals = signals-rise P (view_of P c) (wanted_in P c) t co p h.inbox good S (others co p);
         calls = calls-rise P (view_of P c) (wanted_in P c) t co p h.inbox good S (others co p);
         pending = ap (map vertex_of) staged_here ∙ (vertices-staged P t p S (progress h) ∙ sym (ap (map vertex_of) shown.0));
-        few = subst (λ rows. length rows < 2 ^ 32) (sym staged_here) (staged-few P t p S (progress h));
         awaits = λ computed no_end.
             let some = find-any (λ q. not (has h.sent q)) (λ q. ⊤) (others co p) (E.unsent_left computed no_end) (Each-always (λ q. ⊤) (λ q. tt) (others co p)) in
             subst IsSome (sym some.1) refl;

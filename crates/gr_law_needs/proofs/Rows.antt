@@ -61,10 +61,3 @@ module _ {V A : Type 0} (P : Program V A) (t : Truth V) (p : ℕ) (S : Sound P t
   pub vertices-staged : (k : ℕ) → map vertex_of (staged P t p k) ≡ map vertex_of (rows_at P t p)
   unfolding staged rows_at
   vertices-staged k = map-undone (copy_staged P t p k) vertex_of (λ v. refl) (held_at t p) ∙ sym (map-undone (copy_at P t p) vertex_of (λ v. refl) (held_at t p))
-
-  pub staged-few : (k : ℕ) → length (staged P t p k) < 2 ^ 32
-  unfolding staged
-  staged-few k =
-      let all : length (map (copy_staged P t p k) (held_at t p)) ≡ length (held_at t p) = length-map (held_at t p) (copy_staged P t p k) in
-      let some = length-filter (held t p) t.vertices in let le = count_by-le-length (held t p) t.vertices in let few = S.few in
-      omega (arith, all, some, le, few)

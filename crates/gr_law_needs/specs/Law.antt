@@ -24,9 +24,8 @@ pub record MayAct {V A : Type 0} (P : Program V A) (co : Coordinator) (p : ℕ) 
   pub updates : UpdatesFit h.inbox co.epoch (others co p) h.stable
   pub signals : SignalsRise h.inbox co.epoch (others co p)
   pub calls : CallsRise h.inbox co.epoch (others co p)
-  -- its pending copies are of the vertices of the stable ones, and not too many
+  -- its pending copies are of the vertices of the stable ones
   pub pending : map vertex_of h.pending ≡ map vertex_of h.stable
-  pub few : length h.pending < 2 ^ 32
   -- a stage that is computed and not passed is still to be sent to some party
   pub awaits : AwaitsSending (others co p) (exchange_of h)
   -- what it does next is what a place in a round does next

@@ -11,8 +11,7 @@ use gr_rows::Rows;
 /// The sum of what the stable edges into a vertex bring to it, joined from the unit in rising number: an edge that
 /// stands twice in the graph brings its part twice, and a vertex with no edge here has the unit. It takes no memory.
 ///
-/// It takes one more binary search among the place's edges than there are edges into the vertex, and for each of these
-/// one among its copies.
+/// It takes a binary search among the place's edges, and for each edge into the vertex one among its copies.
 pub fn gather_low<P: VertexProgram>(
     program: &P,
     rows: &Rows<P::Value>,
@@ -24,11 +23,9 @@ pub fn gather_low<P: VertexProgram>(
     ensures kept { IsTrue ((P.program_of program.now).is_acc result) }
 {
     let mut sum = program.unit();
-    let mut i = 0;
-    while let Some(edge) = arcs.into_vertex(v, i) {
-        let part = contribution(program, rows, edge);
+    for edge in arcs.edges_into(v) {
+        let part = contribution(program, rows, *edge);
         sum = program.join(sum, part);
-        i += 1;
     }
     sum
 }

@@ -25,6 +25,13 @@ pub record UpdateFits {V A : Type 0} (rows : List (VertexCopy V)) (b : Body V A)
   pub rise : RisesBy (λ n. n.vertex) (values_of b)
   pub known : All (λ n. IsSome (row rows n.vertex)) (values_of b)
 
+-- a body that a place may be sent in any stage of a round, with these copies
+pub record BodyFits {V A : Type 0} (P : Program V A) (rows : List (VertexCopy V)) (b : Body V A) : Type 0 where
+  pub parts : PartsFit P b
+  pub values : UpdateFits rows b
+  pub signals : RisesBy (λ v. v) (signals_of b)
+  pub calls : RisesBy (λ v. v) (calls_of b)
+
 -- a body without items
 pub record IsEmptyBody {V A : Type 0} (b : Body V A) : Type 0 where
   pub parts : parts_of b ≡ []

@@ -69,7 +69,6 @@ impl PlaceRound {
         requires signals { SignalsRise inbox.now view.now.epoch (without_place view.now.parties me) }
         requires calls { CallsRise inbox.now view.now.epoch (without_place view.now.parties me) }
         requires pending { map vertex_of rows.old.pending ≡ map vertex_of rows.old.stable }
-        requires few { length rows.old.pending < 2 ^ 32 }
         ensures answer { IfOk result (λ act. act ≡ answer_to (P.program_of program.now) me view.now inbox.now arcs.now.stable self.old rows.old (next_at me view.now inbox.now self.old)) }
         ensures line { OnOk result (self.new ≡ line_after (without_place view.now.parties me) self.old (next_at me view.now inbox.now self.old)) }
         ensures rows { OnOk result (rows.new ≡ record rows.old { pending = pending_after (P.program_of program.now) me view.now inbox.now arcs.now.stable self.old rows.old (next_at me view.now inbox.now self.old) }) }

@@ -6,9 +6,10 @@ use gr_rows::Rows;
 
 /// How many vertices that a place masters are due in its pending copies.
 pub(crate) fn due_count<V: Datum>(rows: &Rows<V>, place: u8) -> u32
-    requires { length rows.now.pending < 2 ^ 32 }
     ensures { result ≡ due_count place rows.now.pending }
 {
+    // A look at the length tells that it has 32 bits.
+    let _length = rows.pending_count();
     let mut count = 0;
     let mut i = 0;
     while let Some(copy) = rows.pending_at(i) {

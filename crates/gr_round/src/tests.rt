@@ -6,6 +6,8 @@ ghost use Rattle.gr_low.specs.Sources.{SourcesReady};
 ghost use Rattle.gr_sum.specs.Rank.{rank};
 ghost use Rattle.gr_round.specs.Needs.{ValuesFit, IsEmptyBody};
 
+mod triangle;
+
 use super::*;
 use gr_arcs::Arcs;
 use gr_base::{Edge, Items, NumberedEdge, OutOfMemory, PlaceSet};
@@ -61,13 +63,13 @@ fn own(vertex: u32, indeg: u32, outdeg: u32) -> VertexCopy<Amount>
     }
 }
 
-// A vertex that both places hold, and no edge enters.
-fn shared(vertex: u32, outdeg: u32, master: u8) -> VertexCopy<Amount>
-    ensures { result ≡ record { vertex = vertex; indeg = 0; outdeg = outdeg; master = master; holders = 0 ∷ 1 ∷ []; value = Some (record { 0 = 1000000 }); due = true } }
+// A vertex that both places hold.
+fn shared(vertex: u32, indeg: u32, outdeg: u32, master: u8) -> VertexCopy<Amount>
+    ensures { result ≡ record { vertex = vertex; indeg = indeg; outdeg = outdeg; master = master; holders = 0 ∷ 1 ∷ []; value = Some (record { 0 = 1000000 }); due = true } }
 {
     VertexCopy {
         vertex,
-        indeg: 0,
+        indeg,
         outdeg,
         master,
         holders: PlaceSet::none().with(0).with(1),
@@ -108,7 +110,6 @@ fn alone(alloc: Global) -> Result<Place, OutOfMemory>
     ensures sources { IfOk result (λ p. SourcesReady rank p.rows.stable p.arcs.stable) }
     ensures values { IfOk result (λ p. ValuesFit rank p.rows.stable) }
     ensures pending { IfOk result (λ p. p.rows.pending ≡ p.rows.stable) }
-    ensures few { IfOk result (λ p. length p.rows.stable < 2 ^ 32) }
 {
     let mut rows = Rows::new(alloc);
     rows.stage_copy(own(0, 0, 2))?;
@@ -123,11 +124,10 @@ fn star(alloc: Global) -> Result<Place, OutOfMemory>
     ensures sources { IfOk result (λ p. SourcesReady rank p.rows.stable p.arcs.stable) }
     ensures values { IfOk result (λ p. ValuesFit rank p.rows.stable) }
     ensures pending { IfOk result (λ p. p.rows.pending ≡ p.rows.stable) }
-    ensures few { IfOk result (λ p. length p.rows.stable < 2 ^ 32) }
 {
     let mut rows = Rows::new(alloc);
     rows.stage_copy(readerless(0, 6))?;
-    rows.stage_copy(shared(1, 2, 1))?;
+    rows.stage_copy(shared(1, 0, 2, 1))?;
     rows.install();
     let mut arcs = Arcs::new(alloc);
     arcs.stage_edge(edge(0, 1, 0))?;
@@ -141,11 +141,10 @@ fn leaf(alloc: Global) -> Result<Place, OutOfMemory>
     ensures sources { IfOk result (λ p. SourcesReady rank p.rows.stable p.arcs.stable) }
     ensures values { IfOk result (λ p. ValuesFit rank p.rows.stable) }
     ensures pending { IfOk result (λ p. p.rows.pending ≡ p.rows.stable) }
-    ensures few { IfOk result (λ p. length p.rows.stable < 2 ^ 32) }
 {
     let mut rows = Rows::new(alloc);
     rows.stage_copy(readerless(0, 1))?;
-    rows.stage_copy(shared(1, 2, 0))?;
+    rows.stage_copy(shared(1, 0, 2, 0))?;
     rows.install();
     let mut arcs = Arcs::new(alloc);
     arcs.stage_edge(edge(0, 1, 0))?;
@@ -244,7 +243,6 @@ fn play(
     requires sources { SourcesReady rank rows.old.stable arcs.now.stable }
     requires values { ValuesFit rank rows.old.stable }
     requires pending { rows.old.pending ≡ rows.old.stable }
-    requires few { length rows.old.stable < 2 ^ 32 }
 {
     let view = RoundView {
         epoch: 0,

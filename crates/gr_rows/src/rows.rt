@@ -9,10 +9,14 @@ use gr_program::{Datum, VertexCopy};
 use std::alloc::Global;
 use std::marker::Model;
 
+/// How many copies a layer holds at most: as many as a number of 32 bits counts.
+const MOST_COPIES: usize = u32::MAX as usize;
+
 /// The copies that a place holds, by rising vertex, in two layers: `stable` counts now, and what is staged goes into
 /// `pending`, which counts from the next `install` on.
 ///
-/// Neither `install` nor `discard` takes memory: `stage_copy` has reserved in each layer the room for the other.
+/// Neither `install` nor `discard` takes memory: `stage_copy` has reserved in each layer the room for the other. A layer
+/// holds fewer than 2^32 copies, and a further one is refused as one for which there is no memory.
 #[derive(Drop)]
 pub struct Rows<V: Datum> {
     stable: Vec<VertexCopy<V>>,
@@ -20,7 +24,7 @@ pub struct Rows<V: Datum> {
 }
 
 impl<V: Datum> Model for Rows<V> {
-    ghost use Rattle.std.specs.Prelude.{◌≤◌};
+    ghost use Rattle.std.specs.Prelude.{◌≤◌, ◌<◌, ◌^◌};
     ghost use Rattle.std.specs.Vec.{vec_len, vec_capacity};
     ghost use Rattle.gr_base.specs.Rising.{RisesBy};
     ghost use Rattle.gr_rows.specs.Layers.{CopyLayers, vertex_of};
@@ -34,6 +38,8 @@ impl<V: Datum> Model for Rows<V> {
       pending_rises : RisesBy vertex_of r.pending.items;
       room_for_install : vec_len r.pending ≤ vec_capacity r.stable;
       room_for_discard : vec_len r.stable ≤ vec_capacity r.pending;
+      stable_few : vec_len r.stable < 2 ^ 32;
+      pending_few : vec_len r.pending < 2 ^ 32;
     } };
 }
 
@@ -51,6 +57,7 @@ impl<V: Datum> Rows<V> {
     /// How many stable copies there are.
     pub fn count(&self) -> usize
         ensures count { result ≡ length self.now.stable }
+        ensures few { length self.now.stable < 2 ^ 32 }
         ensures rise { CopiesRise self.now }
     {
         self.stable.len()
@@ -59,6 +66,7 @@ impl<V: Datum> Rows<V> {
     /// How many pending copies there are.
     pub fn pending_count(&self) -> usize
         ensures count { result ≡ length self.now.pending }
+        ensures few { length self.now.pending < 2 ^ 32 }
         ensures rise { CopiesRise self.now }
     {
         self.pending.len()
@@ -124,6 +132,9 @@ impl<V: Datum> Rows<V> {
         ensures ok { OnOk result (self.new ≡ record self.old { pending = with_item vertex_of copy self.old.pending }) }
         ensures err { OnErr result (self.new ≡ self.old) }
     {
+        if self.pending.len() >= MOST_COPIES {
+            return Err(OutOfMemory);
+        }
         let more = (self.pending.len() + 1).saturating_sub(self.stable.len());
         self.stable.reserve(more)?;
         put_copy(&mut self.pending, copy)

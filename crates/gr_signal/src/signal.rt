@@ -14,8 +14,8 @@ use std::alloc::Global;
 /// The targets that the place `to` masters of the stable edges from woken vertices: the Signal body to that place. The
 /// woken vertices rise.
 ///
-/// It scans the copies, and reads the edges into each vertex that `to` masters as far as the first from a woken one.
-/// Each of these takes a binary search among the place's edges and one among the woken vertices.
+/// It scans the copies. For each vertex that `to` masters it takes a binary search among the place's edges, and reads
+/// those into the vertex as far as the first from a woken one, each with a binary search among the woken vertices.
 ///
 /// # Errors
 ///
@@ -87,12 +87,10 @@ fn is_target(arcs: &Arcs, woken: &[u32], v: u32) -> bool
     requires { RisesBy (λ v. v) woken.now }
     ensures { result ≡ is_target woken.now arcs.now.stable v }
 {
-    let mut i = 0;
-    while let Some(edge) = arcs.into_vertex(v, i) {
+    for edge in arcs.edges_into(v) {
         if holds(woken, edge.edge.src) {
             return true;
         }
-        i += 1;
     }
     false
 }

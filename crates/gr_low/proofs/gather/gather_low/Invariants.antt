@@ -1,4 +1,4 @@
-use Rattle.std.proofs.Common.{◌≡◌, ◌≤◌, ◌-◌, IsTrue, length, take, map}
+use Rattle.std.proofs.Common.{◌≡◌, IsTrue, take, map}
 use Rattle.std.specs.List.{filter}
 use Rattle.gr_base.specs.declared.records.NumberedEdge.{NumberedEdge}
 use Rattle.gr_program.specs.Program.{total}
@@ -9,12 +9,8 @@ use Rattle.gr_low.proofs.gather.gather_low.Given as goal
 abbrev pub invariant-loop-edge : goal.invariant-loop-edge
 invariant-loop-edge g l =
     let p = g.P.VertexProgram.program_of l.program in
-    let es = filter (into l.v) l.arcs.stable in
     record {
-      within : l.i ≤ length es;
-      sum : l.sum ≡ total p (map (λ (a : NumberedEdge). along_row p (row l.rows.stable a.edge.src) a.edge.weight) (take l.i es));
+      edges : l.edge-items ≡ filter (into l.v) l.arcs.stable;
+      sum : l.sum ≡ total p (map (λ (a : NumberedEdge). along_row p (row l.rows.stable a.edge.src) a.edge.weight) (take l.edge-index l.edge-items));
       kept : IsTrue (p.is_acc l.sum);
     }
-
-abbrev pub decreases-loop-edge : goal.decreases-loop-edge
-decreases-loop-edge g l = length (filter (into l.v) l.arcs.stable) - l.i

@@ -1,5 +1,4 @@
-use Rattle.std.proofs.Common.{◌≡◌, ◌∙◌, ◌<◌, ◌^◌, map, length, sym, ap, subst, arith}
-use Rattle.std.proofs.lemmas.List.{length-map}
+use Rattle.std.proofs.Common.{map, sym, ap, subst, arith}
 use Rattle.std.specs.List.{All}
 use Rattle.gr_base.specs.Places.{without_place}
 use Rattle.gr_low.specs.Sources.{SourcesReady}
@@ -15,7 +14,6 @@ turns-init c = record {
   sources = c.requires.sources;
   values = c.requires.values;
   vertices = ap (map vertex_of) c.requires.pending;
-  few = c.requires.few;
   empty = subst (All (λ b. IsEmptyBody b.body)) (sym c.new-inbox.ensures) (λ k d l. absurd (omega arith));
 }
 
@@ -40,11 +38,6 @@ act-requires-clause-calls c = empties-call c.turns.inbox c.turns.invariant.empty
 pub act-requires-clause-pending : goal.act-requires-clause-pending
 act-requires-clause-pending c = c.turns.invariant.vertices
 
-pub act-requires-clause-few : goal.act-requires-clause-few
-act-requires-clause-few c =
-    let same : length c.turns.rows.pending ≡ length c.turns.rows.stable = sym (length-map c.turns.rows.pending vertex_of) ∙ ap length c.turns.invariant.vertices ∙ length-map c.turns.rows.stable vertex_of in
-    omega (arith, c.turns.invariant.few)
-
 pub turns-preserved : goal.turns-preserved
 turns-preserved c =
     let same = ap (λ (l : CopyLayers Amount). l.stable) c.in_ok-act.ensures.rows in
@@ -52,6 +45,5 @@ turns-preserved c =
       sources = subst (λ rows. SourcesReady rank rows c.args.arcs.now.stable) (sym same) c.turns.invariant.sources;
       values = subst (ValuesFit rank) (sym same) c.turns.invariant.values;
       vertices = c.act.ensures.vertices;
-      few = subst (λ rows. length rows < 2 ^ 32) (sym same) c.turns.invariant.few;
       empty = c.answer.ensures;
     }

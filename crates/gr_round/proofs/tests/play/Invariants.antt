@@ -1,4 +1,4 @@
-use Rattle.std.proofs.Common.{◌≡◌, ◌<◌, ◌^◌, map, length}
+use Rattle.std.proofs.Common.{◌≡◌, map}
 use Rattle.std.specs.List.{All}
 use Rattle.gr_low.specs.Sources.{SourcesReady}
 use Rattle.gr_rows.specs.Layers.{vertex_of}
@@ -11,6 +11,5 @@ invariant-turns l = record {
   sources : SourcesReady rank l.rows.stable l.arcs.stable;
   values : ValuesFit rank l.rows.stable;
   vertices : map vertex_of l.rows.pending ≡ map vertex_of l.rows.stable;
-  few : length l.rows.stable < 2 ^ 32;
   empty : All (λ b. IsEmptyBody b.body) l.inbox;
 }

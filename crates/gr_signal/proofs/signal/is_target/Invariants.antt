@@ -1,4 +1,4 @@
-use Rattle.std.proofs.Common.{◌≡◌, ◌≤◌, ◌-◌, false, length, take}
+use Rattle.std.proofs.Common.{◌≡◌, false, take}
 use Rattle.std.specs.List.{filter, list_any}
 use Rattle.gr_base.specs.Rising.{has}
 use Rattle.gr_rules.specs.Rows.{into}
@@ -6,9 +6,6 @@ use Rattle.gr_signal.proofs.signal.is_target.Given as goal
 
 abbrev pub invariant-loop-edge : goal.invariant-loop-edge
 invariant-loop-edge l = record {
-  within : l.i ≤ length (filter (into l.v) l.arcs.stable);
-  none : list_any (λ e. has l.woken e.edge.src) (take l.i (filter (into l.v) l.arcs.stable)) ≡ false;
+  edges : l.edge-items ≡ filter (into l.v) l.arcs.stable;
+  none : list_any (λ e. has l.woken e.edge.src) (take l.edge-index l.edge-items) ≡ false;
 }
-
-abbrev pub decreases-loop-edge : goal.decreases-loop-edge
-decreases-loop-edge l = length (filter (into l.v) l.arcs.stable) - l.i
