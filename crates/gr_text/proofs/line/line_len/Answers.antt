@@ -1,8 +1,8 @@
 use Rattle.std.proofs.Common.{sym, arith}
 use Rattle.std.proofs.lemmas.Bool.{eq-eqb}
 use Rattle.std.proofs.lemmas.List.Sums.{position_or_len_is}
-use Rattle.gr_sched.specs.Fields.{is_line_end}
-use Rattle.gr_sched.proofs.read.line_len.Goals as goal
+use Rattle.gr_text.specs.Lines.{is_line_end}
+use Rattle.gr_text.proofs.line.line_len.Goals as goal
 
 pub returns-then-b-eq10-clause-count : goal.returns-then-b-eq10-clause-count
 returns-then-b-eq10-clause-count c =

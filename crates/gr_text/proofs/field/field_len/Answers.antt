@@ -1,7 +1,7 @@
 use Rattle.std.proofs.Common.{sym, ◌∙◌, arith}
 use Rattle.std.proofs.lemmas.List.Sums.{position_or_len_is}
-use Rattle.gr_sched.specs.Fields.{is_blank}
-use Rattle.gr_sched.proofs.field.field_len.Goals as goal
+use Rattle.gr_text.specs.Fields.{is_blank}
+use Rattle.gr_text.proofs.field.field_len.Goals as goal
 
 pub returns-then-is_space-clause-count : goal.returns-then-is_space-clause-count
 returns-then-is_space-clause-count c =

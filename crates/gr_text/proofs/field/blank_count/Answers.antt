@@ -1,7 +1,7 @@
 use Rattle.std.proofs.Common.{sym, ◌∙◌, arith}
 use Rattle.std.proofs.lemmas.List.Sums.{prefix_len_is}
-use Rattle.gr_sched.specs.Fields.{is_blank}
-use Rattle.gr_sched.proofs.field.blank_count.Goals as goal
+use Rattle.gr_text.specs.Fields.{is_blank}
+use Rattle.gr_text.proofs.field.blank_count.Goals as goal
 
 pub returns-then-not-is_space-clause-count : goal.returns-then-not-is_space-clause-count
 returns-then-not-is_space-clause-count c =
