@@ -1,5 +1,5 @@
 -- The first line of a text that shows a fault.
-use Rattle.std.specs.Prelude.{ℕ, List, slice_get, Option}
+use Rattle.std.specs.Prelude.{ℕ, slice_get, Option}
 use Rattle.std.specs.List.{filter_map, range_with_len}
 
 -- the fault of the first of so many lines that shows one, by the fault that each shows
