@@ -14,7 +14,7 @@ mod step;
 mod work;
 
 use crate::host::Host;
-use crate::load::{first_places, read_ids};
+use crate::load::first_places;
 use gr_base::{OutOfMemory, PlaceSet};
 use gr_copies::first_holders;
 use gr_cut::cut;
@@ -78,7 +78,6 @@ impl<P: VertexProgram> Cluster<P> {
         let cut = cut(alloc, graph, job.places, theta)?;
         let directory = first_holders(alloc, graph, &cut, job.places, job.losses)?;
         let (hosts, logs) = first_places(alloc, graph, job, &program, directory.as_slice(), &cut)?;
-        read_ids(graph.vertices.as_slice());
         let any_vertex = graph.vertex_count() > 0;
         Ok(Cluster {
             alloc,

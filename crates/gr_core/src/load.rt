@@ -1,5 +1,4 @@
-ghost use Rattle.std.specs.Prelude.{◌≡◌, ◌<◌, ◌^◌, ◌==◌, ◌&&◌, not, true, List, ℕ, Some, None, length, map, IfOk, if◌then◌else◌};
-ghost use Rattle.std.specs.List.{All};
+ghost use Rattle.std.specs.Prelude.{◌≡◌, ◌<◌, ◌==◌, ◌&&◌, not, true, List, ℕ, Some, None, map, IfOk, if◌then◌else◌};
 ghost use Rattle.gr_base.specs.declared.records.Edge as edge;
 ghost use Rattle.gr_base.specs.Rising.{RisesBy};
 ghost use Rattle.gr_base.specs.Places.{below};
@@ -23,20 +22,6 @@ use gr_log::{EdgeLog, LogRecord};
 use gr_program::{Datum, VertexCopy, VertexProgram};
 use gr_rows::Rows;
 use std::alloc::Global;
-
-// Each id is a number of 32 bits. A list does not say so of its elements, which are read one by one; the loop does nothing
-// else.
-pub(crate) fn read_ids(vertices: &[VertexInfo])
-    ensures { All (λ v. v.id < 2 ^ 32) vertices.now }
-{
-    for vertex in vertices {
-        known_id(vertex.id);
-    }
-}
-
-fn known_id(id: u32)
-    ensures { id < 2 ^ 32 }
-{}
 
 // The hosts and the logs of all places at load.
 pub(crate) fn first_places<P: VertexProgram>(

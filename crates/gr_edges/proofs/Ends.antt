@@ -3,6 +3,7 @@ use Rattle.std.proofs.Common.{◌≡◌, ℕ, Bool, true, false, eqb, cond, List
 use Rattle.std.specs.Prelude.{◌||◌, not}
 use Rattle.std.specs.List.{All, flat_map}
 use Rattle.std.proofs.lemmas.Bool.{eq-eqb}
+use Rattle.std.proofs.Math.Bool.{or-true}
 use Rattle.std.proofs.lemmas.List.Elements.{All-append, All-cons}
 use Rattle.std.proofs.lemmas.List.Folds.{list_any-append}
 use Rattle.gr_base.specs.declared.records.Edge as base
@@ -11,14 +12,14 @@ use Rattle.gr_edges.specs.declared.line.LineFound.{LineFound}
 use Rattle.gr_edges.specs.declared.line.LineFound.TheVariants.{Skipped, Vertex, Edge, TooLarge, Bad}
 use Rattle.gr_edges.specs.Vertices.{HasEnds}
 use Rattle.gr_edges.specs.Reading.{edges_of_line, ids_of_line, edges_of, ids_of}
-use Rattle.gr_edges.proofs.Ids.{has-joined, or_true}
+use Rattle.gr_edges.proofs.Ids.{has-joined}
 
 -- a list with more ids in front or behind
 has-before : (v : ℕ) (ns ms : List ℕ) → has ns v ≡ true → has (ns ++ ms) v ≡ true
 has-before v ns ms h = list_any-append (λ (n : ℕ). eqb n v) ns ms ∙ ap (λ (b : Bool). b || has ms v) h
 
 has-behind : (v : ℕ) (ns ms : List ℕ) → has ms v ≡ true → has (ns ++ ms) v ≡ true
-has-behind v ns ms h = list_any-append (λ (n : ℕ). eqb n v) ns ms ∙ ap (λ (b : Bool). has ns v || b) h ∙ or_true (has ns v)
+has-behind v ns ms h = list_any-append (λ (n : ℕ). eqb n v) ns ms ∙ ap (λ (b : Bool). has ns v || b) h ∙ or-true (has ns v)
 
 ends-before : (ns ms : List ℕ) (e : base.Edge) → HasEnds ns e → HasEnds (ns ++ ms) e
 ends-before ns ms e h = record { src = has-before e.src ns ms h.src; dst = has-before e.dst ns ms h.dst }
@@ -30,7 +31,7 @@ first-is : (a b : ℕ) → has (a ∷ b ∷ []) a ≡ true
 first-is a b = ap (λ (t : Bool). t || (eqb b a || false)) (eq-eqb a a refl)
 
 second-is : (a b : ℕ) → has (a ∷ b ∷ []) b ≡ true
-second-is a b = ap (λ (t : Bool). eqb a b || (t || false)) (eq-eqb b b refl) ∙ or_true (eqb a b)
+second-is a b = ap (λ (t : Bool). eqb a b || (t || false)) (eq-eqb b b refl) ∙ or-true (eqb a b)
 
 none-of : (P : base.Edge → Type 0) → All P []
 none-of P = λ k d lt. absurd (omega arith)

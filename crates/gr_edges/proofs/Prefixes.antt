@@ -1,9 +1,9 @@
 -- What the lines before one say, with one line more.
-use Rattle.std.proofs.Common.{◌≡◌, ℕ, ◌+◌, ◌<◌, Bool, List, [], ◌∷◌, ◌++◌, length, take, drop, get_or, Option, Some, None, sym, ap, ◌∙◌, arith, inl, inr, length-drop}
+use Rattle.std.proofs.Common.{◌≡◌, ℕ, ◌+◌, ◌<◌, Bool, List, [], ◌∷◌, ◌++◌, length, take, drop, Option, Some, None, sym, ap, ◌∙◌, arith, inl, inr, length-drop}
 use Rattle.std.specs.List.{flat_map}
 use Rattle.std.specs.Option.{option_or}
 use Rattle.std.proofs.lemmas.Bool.{cases_eq}
-use Rattle.std.proofs.lemmas.List.{take_more, drop_more, take_all, append-nil}
+use Rattle.std.proofs.lemmas.List.{take_all, append-nil}
 use Rattle.std.proofs.lemmas.List.Concat.{flat_map-append}
 use Rattle.std.proofs.lemmas.List.Sums.{fold-append}
 use Rattle.std.specs.Ordering.{nat_cmp}
@@ -13,7 +13,8 @@ use Rattle.gr_edges.specs.declared.line.LineFound.{LineFound}
 use Rattle.gr_edges.specs.declared.line.LineFound.TheVariants.{Skipped}
 use Rattle.gr_edges.specs.declared.fault.GraphFault.{GraphFault}
 use Rattle.gr_edges.specs.Reading.{edges_of_line, ids_of_line, joined, edges_of, ids_of, fault_of_line, fault_of_size, fault_at, first_fault, max_edges, max_vertices}
-use Rattle.gr_edges.proofs.FirstFault.{none-found, first-found}
+use Rattle.gr_text.proofs.Faults.{first_fault_by-none, first_fault_by-some}
+use Rattle.gr_text.proofs.Prefixes.{item-below, get_or-item, take-item}
 
 -- The first k lines were taken, and show no fault.
 pub record IsTaken (undirected : Bool) (lines : List LineFound) (k : ℕ) (edges : List base.Edge) (ids : List ℕ) : Type 0 where
@@ -22,17 +23,8 @@ pub record IsTaken (undirected : Bool) (lines : List LineFound) (k : ℕ) (edges
   pub sound : (i : ℕ) → i < k → fault_at max_edges max_vertices undirected lines i ≡ None
 
 module _ (undirected : Bool) (lines : List LineFound) (k : ℕ) (edges : List base.Edge) (ids : List ℕ) (taken : IsTaken undirected lines k edges ids) (line : LineFound) (more : List LineFound) (left : line ∷ more ≡ drop k lines) where
-  below : k < length lines
-  below = omega (arith, ap length left, length-drop k lines)
-
-  here : (d : LineFound) → get_or lines k d ≡ line
-  here d = let split = drop_more lines k d below in cc
-
-  pub lines-after : more ≡ drop (k + 1) lines
-  lines-after = let split = drop_more lines k line below in cc
-
   prefix : take (k + 1) lines ≡ take k lines ++ line ∷ []
-  prefix = take_more lines k line below ∙ ap (λ (l : LineFound). take k lines ++ l ∷ []) (here line)
+  prefix = take-item lines k line more left
 
   edges-after : edges ++ edges_of_line undirected line ≡ edges_of undirected (take (k + 1) lines)
   edges-after =
@@ -53,7 +45,7 @@ module _ (undirected : Bool) (lines : List LineFound) (k : ℕ) (edges : List ba
   fault = option_or (fault_of_line (k + 1) line) (fault_of_size max_edges max_vertices (k + 1) (edges ++ edges_of_line undirected line) (joined ids (ids_of_line line)))
 
   fault-here : fault_at max_edges max_vertices undirected lines k ≡ fault
-  fault-here = λ t. option_or (fault_of_line (k + 1) (here Skipped t)) (fault_of_size max_edges max_vertices (k + 1) (sym edges-after t) (sym ids-after t))
+  fault-here = λ t. option_or (fault_of_line (k + 1) (get_or-item lines k line more left Skipped t)) (fault_of_size max_edges max_vertices (k + 1) (sym edges-after t) (sym ids-after t))
 
   -- a line with no fault
   pub taken-after : (new_edges : List base.Edge) (new_ids : List ℕ) → new_edges ≡ edges ++ edges_of_line undirected line → new_ids ≡ joined ids (ids_of_line line) → fault_of_line (k + 1) line ≡ None → fault_of_size max_edges max_vertices (k + 1) new_edges new_ids ≡ None → IsTaken undirected lines (k + 1) new_edges new_ids
@@ -70,7 +62,7 @@ module _ (undirected : Bool) (lines : List LineFound) (k : ℕ) (edges : List ba
 
   -- a line with a fault
   pub fault-found : (found : GraphFault) → fault ≡ Some found → first_fault undirected lines ≡ Some found
-  fault-found found is = first-found (fault_at max_edges max_vertices undirected lines) 0 (length lines) k found (omega arith) (omega (arith, below)) (λ i le lt. taken.sound i lt) (fault-here ∙ is)
+  fault-found found is = first_fault_by-some (fault_at max_edges max_vertices undirected lines) (length lines) k found (item-below lines k line more left) taken.sound (fault-here ∙ is)
 
 -- all lines were taken
 module _ (undirected : Bool) (lines : List LineFound) (k : ℕ) (edges : List base.Edge) (ids : List ℕ) (taken : IsTaken undirected lines k edges ids) (left : [] ≡ drop k lines) where
@@ -84,7 +76,7 @@ module _ (undirected : Bool) (lines : List LineFound) (k : ℕ) (edges : List ba
   all-ids = taken.ids_are ∙ ap ids_of all
 
   pub no-fault : first_fault undirected lines ≡ None
-  no-fault = none-found (fault_at max_edges max_vertices undirected lines) 0 (length lines) (λ i le lt. taken.sound i (omega (arith, ap length left, length-drop k lines)))
+  no-fault = first_fault_by-none (fault_at max_edges max_vertices undirected lines) (length lines) (λ i lt. taken.sound i (omega (arith, ap length left, length-drop k lines)))
 
 -- no line was taken
 pub none-taken : (undirected : Bool) (lines : List LineFound) (edges : List base.Edge) (ids : List ℕ) → edges ≡ [] → ids ≡ [] → IsTaken undirected lines 0 edges ids

@@ -19,7 +19,7 @@ use Rattle.gr_edges.specs.declared.line.LineFound.TheVariants.{Skipped, Vertex, 
 use Rattle.gr_edges.specs.Vertices.{id_of, ids, vertex_of, HasDegrees, HasEnds}
 use Rattle.gr_edges.specs.Reading.{lines_of, joined, edges_of_line, ids_of_line, edges_of, ids_of, vertices_of, fault_of_line, fault_of_size, fault_at, first_fault, max_edges, max_vertices, IsWithinLimits}
 use Rattle.gr_edges.specs.Text.{text_of, edge_line, IsReadAs, Has32Bits}
-use Rattle.gr_edges.proofs.FirstFault.{none-found}
+use Rattle.gr_text.proofs.Faults.{first_fault_by-none}
 use Rattle.gr_edges.proofs.Ids.{insert-lt, insert-eq, insert-gt, insert-present}
 use Rattle.gr_edges.proofs.Printed.{vertex-lines, edge-lines}
 
@@ -82,7 +82,7 @@ IsSound line = (number : ℕ) → fault_of_line number line ≡ None
 -- lines with no fault of their own, within the limits
 no-fault : (undirected : Bool) (lines : List LineFound) → All IsSound lines → IsWithinLimits (edges_of undirected lines) (ids_of lines) → first_fault undirected lines ≡ None
 unfolding IsSound
-no-fault undirected lines sound few = none-found (fault_at max_edges max_vertices undirected lines) 0 (length lines) (λ i le lt.
+no-fault undirected lines sound few = first_fault_by-none (fault_at max_edges max_vertices undirected lines) (length lines) (λ i lt.
     let no_more_edges : ltb max_edges (length (edges_of undirected (take (i + 1) lines))) ≡ false = le-ltb _ _ (omega (arith, few.few_edges, edges-grow undirected lines (i + 1))) in
     let no_more_ids : ltb max_vertices (length (ids_of (take (i + 1) lines))) ≡ false = le-ltb _ _ (omega (arith, few.few_vertices, ids-grow undirected lines (i + 1))) in
     (λ t. option_or (sound i Skipped (omega arith) (i + 1) t) (fault_of_size max_edges max_vertices (i + 1) (edges_of undirected (take (i + 1) lines)) (ids_of (take (i + 1) lines))))

@@ -1,16 +1,18 @@
 -- The graph that a text says, or the fault of its first faulty line.
-use Rattle.std.specs.Prelude.{ℕ, ◌+◌, ◌≤◌, Bool, ◌==◌, ◌||◌, not, nat_lt, if◌then◌else◌, List, [], ◌∷◌, length, map, take, slice_get, slice_index_or, Option, Some, None}
-use Rattle.std.specs.List.{slice_split, flat_map, filter_map, fold, range_with_len}
+use Rattle.std.specs.Prelude.{ℕ, ◌+◌, ◌≤◌, Bool, ◌==◌, ◌||◌, not, nat_lt, if◌then◌else◌, List, [], ◌∷◌, length, map, take, slice_index_or, Option, Some, None}
+use Rattle.std.specs.List.{slice_split, flat_map, fold}
 use Rattle.std.specs.Option.{option_or}
 use Rattle.std.specs.Ordering.{nat_cmp}
 use Rattle.std.specs.BTreeSet.{insert_key}
 use Rattle.gr_base.specs.declared.records.Edge as base
+use Rattle.gr_text.specs.Faults.{first_fault_by}
+use Rattle.gr_text.specs.Lines.{is_line_end}
 use Rattle.gr_edges.specs.declared.graph.VertexInfo.{VertexInfo}
 use Rattle.gr_edges.specs.declared.line.LineFound.{LineFound}
 use Rattle.gr_edges.specs.declared.line.LineFound.TheVariants.{Skipped, Vertex, Edge, TooLarge, Bad}
 use Rattle.gr_edges.specs.declared.fault.GraphFault.{GraphFault}
 use Rattle.gr_edges.specs.declared.fault.GraphFault.TheVariants.{NumberTooLarge, BadLine, TooManyEdges, TooManyVertices}
-use Rattle.gr_edges.specs.Fields.{is_line_end, line_of}
+use Rattle.gr_edges.specs.Fields.{line_of}
 use Rattle.gr_edges.specs.Vertices.{vertex_of}
 
 -- how many edges and vertices a graph may have
@@ -79,8 +81,7 @@ fault_at edge_limit id_limit undirected lines i =
 
 -- the fault of the first line that shows one; lines are numbered from 1
 abbrev pub first_fault_within : ℕ → ℕ → Bool → List LineFound → Option GraphFault
-first_fault_within edge_limit id_limit undirected lines =
-    slice_get (filter_map (fault_at edge_limit id_limit undirected lines) (range_with_len 0 (length lines))) 0
+first_fault_within edge_limit id_limit undirected lines = first_fault_by (fault_at edge_limit id_limit undirected lines) (length lines)
 
 abbrev pub first_fault : Bool → List LineFound → Option GraphFault
 first_fault = first_fault_within max_edges max_vertices

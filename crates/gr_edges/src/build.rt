@@ -48,7 +48,8 @@ pub fn graph_of(
 
 // The vertex of an id, with no edge.
 fn unconnected(id: u32) -> VertexInfo
-    ensures { result ≡ vertex_of [] id }
+    ensures vertex { result ≡ vertex_of [] id }
+    ensures small { result.id < 2 ^ 32 }
 {
     VertexInfo {
         id,
@@ -62,6 +63,7 @@ fn with_degrees(edges: Items<Edge>, mut vertices: Vec<VertexInfo>) -> Graph
     requires rise { RisesBy id_of vertices.items }
     requires none { vertices.items ≡ map (vertex_of []) (ids vertices.items) }
     requires ends { All (HasEnds (ids vertices.items)) edges }
+    requires small { All (λ v. v.id < 2 ^ 32) vertices.items }
     requires few { length edges < 2 ^ 32 }
     ensures edges { result.edges ≡ edges }
     ensures vertices { result.vertices ≡ map (vertex_of edges) (ids vertices.items) }

@@ -1,4 +1,4 @@
-ghost use Rattle.std.specs.Prelude.{◌≡◌, [], length};
+ghost use Rattle.std.specs.Prelude.{◌≡◌, ◌<◌, ◌^◌, [], length};
 ghost use Rattle.std.specs.List.{All};
 ghost use Rattle.gr_base.specs.Rising.{RisesBy};
 ghost use Rattle.gr_edges.specs.Vertices.{id_of, ids, HasDegrees, HasEnds};
@@ -16,7 +16,7 @@ pub struct VertexInfo {
 
 /// A directed graph: its edges in their order, and its vertices by rising id.
 ///
-/// The degrees are those of the edges, and both ends of each edge are vertices.
+/// The degrees are those of the edges, both ends of each edge are vertices, and ids are numbers of 32 bits.
 #[derive(Debug, Drop)]
 pub struct Graph {
     pub edges: Items<Edge>,
@@ -24,6 +24,7 @@ pub struct Graph {
     pub ghost rise: { RisesBy id_of vertices },
     pub ghost degrees: { All (HasDegrees edges) vertices },
     pub ghost ends: { All (HasEnds (ids vertices)) edges },
+    pub ghost small: { All (λ v. v.id < 2 ^ 32) vertices },
 }
 
 impl Graph {
@@ -44,6 +45,7 @@ impl Graph {
         ensures rise { RisesBy id_of self.now.vertices }
         ensures degrees { All (HasDegrees self.now.edges) self.now.vertices }
         ensures ends { All (HasEnds (ids self.now.vertices)) self.now.edges }
+        ensures small { All (λ v. v.id < 2 ^ 32) self.now.vertices }
     {
         self.vertices.len()
     }

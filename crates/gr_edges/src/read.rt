@@ -1,7 +1,5 @@
 ghost use Rattle.std.specs.Prelude.{◌≡◌, ◌≤◌, ◌⊎◌, [], ◌++◌, length, Some, None, OnOk, IfOk, IfErr};
-ghost use Rattle.std.specs.List.{position_or_len};
 ghost use Rattle.std.specs.Option.{option_or};
-ghost use Rattle.gr_edges.specs.Fields.{is_line_end};
 ghost use Rattle.gr_edges.specs.Reading.{lines_of, edges_of, vertices_of, edges_of_line, ids_of_line, joined, both_ways, fault_of_line, fault_of_size, first_fault, ids_of, max_edges, max_vertices, IsWithinLimits};
 
 use crate::build::graph_of;
@@ -10,6 +8,7 @@ use crate::graph::Graph;
 use crate::id_set::IdSet;
 use crate::line::{LineFound, read_line};
 use gr_base::{Edge, Items, OutOfMemory};
+use gr_text::line_len;
 use std::alloc::Global;
 
 const MAX_EDGES: usize = 4194304;
@@ -66,19 +65,6 @@ fn take_lines(
         rest = &rest[len + 1..];
         done += 1;
     }
-}
-
-// How many bytes stand before the first line end.
-fn line_len(text: &[u8]) -> usize
-    ensures count { result ≡ position_or_len is_line_end text.now }
-    ensures within { result ≤ length text.now }
-{
-    for (i, b) in text.iter().enumerate() {
-        if *b == b'\n' {
-            return i;
-        }
-    }
-    text.len()
 }
 
 // Takes what the line with this number says.

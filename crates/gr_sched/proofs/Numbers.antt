@@ -1,92 +1,52 @@
--- The number of a field, by the numeral that stands at its front.
-use Rattle.std.proofs.Common.{◌≡◌, ◌≢◌, ℕ, ◌+◌, ◌^◌, ◌<◌, ◌≤◌, Bool, true, false, cond, List, [], ◌∷◌, length, Option, Some, None, refl, sym, ap, ◌∙◌, subst, inl, inr, arith}
+-- The number of a field, by the numeral that stands at its front; and of a number's digits.
+use Rattle.std.proofs.Common.{◌≡◌, ◌≢◌, ℕ, suc, ◌^◌, ◌<◌, Bool, true, false, cond, List, [], ◌∷◌, length, map, Option, Some, None, refl, sym, ap, ◌∙◌, inl, inr, arith}
 use Rattle.std.specs.Prelude.{◌&&◌}
-use Rattle.std.specs.List.{list_all, prefix_len}
+use Rattle.std.specs.List.{All, list_all}
 use Rattle.std.specs.Char.{is_ascii_digit}
+use Rattle.std.specs.Fmt.{decimal}
 use Rattle.std.specs.Str.Parse.{digits_value}
-use Rattle.std.proofs.lemmas.Bool.{cases_Bool, cases_eq, cases_lt, cond-true, cond-false, lt-ltb, le-ltb, and_from, and_parts}
-use Rattle.std.proofs.lemmas.List.{take_all}
-use Rattle.std.proofs.lemmas.List.Folds.{length-prefix_len}
+use Rattle.std.proofs.lemmas.Bool.{cases_eq}
 use Rattle.gr_base.specs.declared.numbers.Numeral.TheVariants.{NoDigits, TooLarge, Is}
-use Rattle.gr_base.specs.Numeral.{numeral_at, numeral_of, digits_at}
-use Rattle.gr_sched.specs.Fields.{number_of}
+use Rattle.gr_base.specs.Numeral.{numeral_at}
+use Rattle.gr_text.proofs.Digits.{IsNumber, number-whole, number-part, large-whole, large-part, no-digits}
+use Rattle.gr_text.proofs.Spaced.{number-decimal, digits_value-decimal}
+use Rattle.gr_sched.specs.Fields.{number_of, with_number, all_numbers}
 
-all-from_prefix : (p : ℕ → Bool) (xs : List ℕ) → prefix_len p xs ≡ length xs → list_all p xs ≡ true
-all-from_prefix p [] is = refl
-all-from_prefix p (x ∷ xs) is = elim (cases_Bool (p x)) [
-  | inl passes ↦ let one : prefix_len p (x ∷ xs) ≡ 1 + prefix_len p xs = cond-true (p x) _ _ passes in and_from (p x) (list_all p xs) passes (all-from_prefix p xs (omega (arith, one, is)))
-  | inr fails ↦ let none : prefix_len p (x ∷ xs) ≡ 0 = cond-false (p x) _ _ fails in absurd (omega (arith, none, is))
-]
+-- what a test of the digits, and one of their value, leave of the number
+number-if : (all fits : Bool) (value : ℕ) → all ≡ true → fits ≡ true → Some value ≡ cond (all && fits) (Some value) None
+number-if all fits value a b = rw (a, b) refl
 
-prefix-from_all : (p : ℕ → Bool) (xs : List ℕ) → list_all p xs ≡ true → prefix_len p xs ≡ length xs
-prefix-from_all p [] all = refl
-prefix-from_all p (x ∷ xs) all =
-    let parts = and_parts (p x) (list_all p xs) all in
-    cond-true (p x) _ _ parts.0 ∙ omega (arith, prefix-from_all p xs parts.1)
+none-if : (all fits : Bool) (value : ℕ) → all ≡ false → None ≡ cond (all && fits) (Some value) None
+none-if all fits value a = rw a refl
 
--- what a numeral says of its digits
-of_Is : (ds : List ℕ) (e value end : ℕ) → numeral_of ds e ≡ Is value end → (digits_value 10 ds < 2 ^ 32) × (digits_value 10 ds ≡ value) × (e ≡ end)
-of_Is [] e value end is = absurd (cc)
-of_Is (d ∷ ds) e value end is = elim (cases_lt (digits_value 10 (d ∷ ds)) (2 ^ 32)) [
-  | inl small ↦ let this = cond-true _ (Is (digits_value 10 (d ∷ ds)) e) (TooLarge e) (lt-ltb _ _ small) in (small, (cc), (cc))
-  | inr large ↦ let this = cond-false _ (Is (digits_value 10 (d ∷ ds)) e) (TooLarge e) (le-ltb _ _ large) in absurd (cc)
-]
+large-if : (all fits : Bool) (value : ℕ) → all ≡ true → fits ≡ false → None ≡ cond (all && fits) (Some value) None
+large-if all fits value a b = rw (a, b) refl
 
-of_TooLarge : (ds : List ℕ) (e end : ℕ) → numeral_of ds e ≡ TooLarge end → (2 ^ 32 ≤ digits_value 10 ds) × (e ≡ end)
-of_TooLarge [] e end is = absurd (cc)
-of_TooLarge (d ∷ ds) e end is = elim (cases_lt (digits_value 10 (d ∷ ds)) (2 ^ 32)) [
-  | inl small ↦ let this = cond-true _ (Is (digits_value 10 (d ∷ ds)) e) (TooLarge e) (lt-ltb _ _ small) in absurd (cc)
-  | inr large ↦ let this = cond-false _ (Is (digits_value 10 (d ∷ ds)) e) (TooLarge e) (le-ltb _ _ large) in (large, (cc))
-]
-
-of_NoDigits : (ds : List ℕ) (e : ℕ) → numeral_of ds e ≡ NoDigits → length ds ≡ 0
-of_NoDigits [] e is = refl
-of_NoDigits (d ∷ ds) e is = elim (cases_lt (digits_value 10 (d ∷ ds)) (2 ^ 32)) [
-  | inl small ↦ let this = cond-true _ (Is (digits_value 10 (d ∷ ds)) e) (TooLarge e) (lt-ltb _ _ small) in absurd (cc)
-  | inr large ↦ let this = cond-false _ (Is (digits_value 10 (d ∷ ds)) e) (TooLarge e) (le-ltb _ _ large) in absurd (cc)
-]
+number_of-number : (f : List ℕ) (value : ℕ) → IsNumber f true → digits_value 10 f ≡ value → Some value ≡ number_of f
+number_of-number f value is says = ap (λ (v : ℕ). let one : Option ℕ = Some v in one) (sym says) ∙ number-if _ _ (digits_value 10 f) is.digits is.size
 
 module _ (f : List ℕ) where
-  length-run : length (digits_at f 0) ≡ prefix_len is_ascii_digit f
-  length-run = length-prefix_len is_ascii_digit f
+  number_of-other : list_all is_ascii_digit f ≡ false → None ≡ number_of f
+  number_of-other other = none-if _ _ (digits_value 10 f) other
 
-  run-whole : prefix_len is_ascii_digit f ≡ length f → digits_at f 0 ≡ f
-  run-whole is = take_all (prefix_len is_ascii_digit f) f (omega arith)
+  pub number_of-whole : (value end : ℕ) → numeral_at f 0 ≡ Is value end → end ≡ length f → Some value ≡ number_of f
+  number_of-whole value end is whole = let says = number-whole f value end is whole in number_of-number f value says.0 says.1
 
-  digits : (all fits : Bool) (value : ℕ) → all ≡ true → fits ≡ true → Some value ≡ cond (all && fits) (Some value) None
-  digits all fits value a b = rw (a, b) refl
+  pub number_of-part : (value end : ℕ) → numeral_at f 0 ≡ Is value end → end ≢ length f → None ≡ number_of f
+  number_of-part value end is ne = number_of-other (number-part f value end is ne)
 
-  pub number-fits : (value end : ℕ) → numeral_at f 0 ≡ Is value end → end ≡ length f → Some value ≡ number_of f
-  number-fits value end is whole =
-      let says = of_Is (digits_at f 0) (0 + length (digits_at f 0)) value end is in
-      let all : prefix_len is_ascii_digit f ≡ length f = omega (arith, length-run, says.2, whole) in
-      let run = run-whole all in
-      let small : digits_value 10 f < 2 ^ 32 = subst (λ (ds : List ℕ). digits_value 10 ds < 2 ^ 32) run says.0 in
-      ap (λ (v : ℕ). let one : Option ℕ = Some v in one) (sym says.1 ∙ ap (digits_value 10) run) ∙ digits _ _ (digits_value 10 f) (all-from_prefix is_ascii_digit f all) (lt-ltb _ _ small)
+  pub number_of-bad : numeral_at f 0 ≡ NoDigits → 0 < length f → None ≡ number_of f
+  number_of-bad is more = number_of-other (no-digits f is more)
 
-  other : (all fits : Bool) (value : ℕ) → all ≡ false → None ≡ cond (all && fits) (Some value) None
-  other all fits value a = rw a refl
-
-  large : (all fits : Bool) (value : ℕ) → all ≡ true → fits ≡ false → None ≡ cond (all && fits) (Some value) None
-  large all fits value a b = rw (a, b) refl
-
-  number-other : prefix_len is_ascii_digit f ≢ length f → None ≡ number_of f
-  number-other ne = elim (cases_Bool (list_all is_ascii_digit f)) [
-    | inl all ↦ absurd (ne (prefix-from_all is_ascii_digit f all))
-    | inr some ↦ other _ _ (digits_value 10 f) some
+  pub number_of-large : (end : ℕ) → numeral_at f 0 ≡ TooLarge end → None ≡ number_of f
+  number_of-large end is = elim (cases_eq end (length f)) [
+    | inl whole ↦ let above = large-whole f end is whole in large-if _ _ (digits_value 10 f) above.digits above.size
+    | inr ne ↦ number_of-other (large-part f end is ne)
   ]
 
-  pub number-part : (value end : ℕ) → numeral_at f 0 ≡ Is value end → end ≢ length f → None ≡ number_of f
-  number-part value end is ne = let says = of_Is (digits_at f 0) (0 + length (digits_at f 0)) value end is in number-other (λ all. ne (omega (arith, length-run, says.2)))
+pub number_of-decimal : (n : ℕ) → n < 2 ^ 32 → number_of (decimal n) ≡ Some n
+number_of-decimal n small = sym (number_of-number (decimal n) n (number-decimal n small) (digits_value-decimal n small))
 
-  pub number-bad : numeral_at f 0 ≡ NoDigits → 0 < length f → None ≡ number_of f
-  number-bad is more = let says = of_NoDigits (digits_at f 0) (0 + length (digits_at f 0)) is in number-other (λ all. omega (arith, length-run, says))
-
-  pub number-large : (end : ℕ) → numeral_at f 0 ≡ TooLarge end → None ≡ number_of f
-  number-large end is = elim (cases_eq (prefix_len is_ascii_digit f) (length f)) [
-    | inl all ↦
-        let says = of_TooLarge (digits_at f 0) (0 + length (digits_at f 0)) end is in
-        let above : 2 ^ 32 ≤ digits_value 10 f = subst (λ (ds : List ℕ). 2 ^ 32 ≤ digits_value 10 ds) (run-whole all) says.0 in
-        large _ _ (digits_value 10 f) (all-from_prefix is_ascii_digit f all) (le-ltb _ _ above)
-    | inr part ↦ number-other part
-  ]
+pub all_numbers-decimal : (ns : List ℕ) → All (λ n. n < 2 ^ 32) ns → all_numbers (map decimal ns) ≡ Some ns
+all_numbers-decimal [] small = refl
+all_numbers-decimal (n ∷ ns) small = λ t. with_number (number_of-decimal n (small 0 n (omega arith)) t) (all_numbers-decimal ns (λ k d lt. small (suc k) d (omega arith)) t)

@@ -1,25 +1,24 @@
 -- What the reader finds in a line that the printer writes.
 use Rattle.std.proofs.Common.{◌≡◌, ℕ, suc, ◌^◌, ◌<◌, Bool, true, false, eqb, ltb, cond, List, [], ◌∷◌, ◌++◌, length, map, codes, Option, Some, refl, sym, ap, ◌∙◌, subst, arith, length-append, append_assoc}
 use Rattle.std.specs.Prelude.{option_map}
-use Rattle.std.specs.List.{All, fold}
+use Rattle.std.specs.List.{All, flat_map, fold}
 use Rattle.std.specs.Fmt.{decimal}
 use Rattle.std.proofs.lemmas.Bool.{cond-true, cond-false, eqb-true, lt-ltb, le-ltb}
 use Rattle.std.proofs.lemmas.List.{append-nil, get_or_append_left}
 use Rattle.std.proofs.Math.Seq.{get_or-append_seam}
 use Rattle.std.proofs.lemmas.List.Elements.{All-cons}
-use Rattle.std.proofs.lemmas.List.Splits.{slice_split_at}
 use Rattle.gr_base.specs.Rising.{RisesBy}
 use Rattle.gr_base.specs.Places.{IsPlaces, with_place}
+use Rattle.gr_text.proofs.Spaced.{IsWord, word-from_test, word-decimal, words-decimal, spaced, words-read, words-before}
 use Rattle.gr_sched.specs.declared.event.Event.{Event}
 use Rattle.gr_sched.specs.declared.event.Event.TheVariants as event
 use Rattle.gr_sched.specs.declared.event.Line.{Line}
 use Rattle.gr_sched.specs.declared.event.Line.TheVariants as line
 use Rattle.gr_sched.specs.declared.line.LineFound.TheVariants.{Skipped, Found, Misplaced}
-use Rattle.gr_sched.specs.Fields.{is_line_end}
 use Rattle.gr_sched.specs.Reading.{kept_of, crash_at, reborn_at, of_fields, line_of, lines_of, placed}
 use Rattle.gr_sched.specs.Text.{word, event_text, line_text, schedule_text}
 use Rattle.gr_sched.specs.Printed.{IsLine, IsWithin}
-use Rattle.gr_sched.proofs.Spaced.{IsPlain, IsWord, word-from_test, word-decimal, number-decimal, numbers-decimal, words-decimal, spaced, spaced-words, plain-spaced, words-read}
+use Rattle.gr_sched.proofs.Numbers.{number_of-decimal, all_numbers-decimal}
 
 -- ---- places put among rising ones
 
@@ -72,6 +71,11 @@ other_words (line.Step event.Repair) = []
 other_words (line.Step event.Discard) = []
 other_words line.Settle = []
 other_words line.Finish = []
+
+-- numbers behind a word
+spaced-words : (w : List ℕ) (ns : List ℕ) → w ++ flat_map word ns ≡ spaced w (map decimal ns)
+spaced-words w [] = append-nil w
+spaced-words w (n ∷ ns) = ap (λ (l : List ℕ). w ++ 32 ∷ l) (spaced-words (decimal n) ns)
 
 keep-text : (none : Bool) (n : ℕ) (w : List ℕ) → w ++ cond none [] (codes " keep" ++ word n) ≡ spaced w (keep_words none n)
 keep-text true n w = append-nil w
@@ -137,17 +141,17 @@ others-are_words line.Finish h = no-words
 
 kept-said : (none : Bool) (n : ℕ) → eqb n 0 ≡ none → n < 2 ^ 32 → kept_of (keep_words none n) ≡ Some n
 kept-said true n is small = ap (λ (m : ℕ). let one : Option ℕ = Some m in one) (sym (eqb-true n 0 is))
-kept-said false n is small = number-decimal n small
+kept-said false n is small = number_of-decimal n small
 
 words-say : (places : ℕ) (l : Line) → IsLine l → of_fields places (first_word l ∷ other_words l) ≡ placed places (Some l)
-words-say places (line.Step (event.Work p)) h = ap (λ (n : Option ℕ). placed places (option_map (λ (p : ℕ). line.Step (event.Work p)) n)) (number-decimal p h)
-words-say places (line.Step (event.Deliver i)) h = ap (λ (n : Option ℕ). placed places (option_map (λ (i : ℕ). line.Step (event.Deliver i)) n)) (number-decimal i h)
-words-say places (line.Step (event.Discarded i)) h = ap (λ (n : Option ℕ). placed places (option_map (λ (i : ℕ). line.Step (event.Discarded i)) n)) (number-decimal i h)
-words-say places (line.Step (event.Crash p n)) h = λ t. placed places (crash_at (number-decimal p h.0 t) (kept-said (eqb n 0) n refl h.1 t))
+words-say places (line.Step (event.Work p)) h = ap (λ (n : Option ℕ). placed places (option_map (λ (p : ℕ). line.Step (event.Work p)) n)) (number_of-decimal p h)
+words-say places (line.Step (event.Deliver i)) h = ap (λ (n : Option ℕ). placed places (option_map (λ (i : ℕ). line.Step (event.Deliver i)) n)) (number_of-decimal i h)
+words-say places (line.Step (event.Discarded i)) h = ap (λ (n : Option ℕ). placed places (option_map (λ (i : ℕ). line.Step (event.Discarded i)) n)) (number_of-decimal i h)
+words-say places (line.Step (event.Crash p n)) h = λ t. placed places (crash_at (number_of-decimal p h.0 t) (kept-said (eqb n 0) n refl h.1 t))
 words-say places (line.Step event.Barrier) h = refl
 words-say places (line.Step (event.Recover [])) h = refl
 words-say places (line.Step (event.Recover (p ∷ ps))) h =
-    ap (λ (ns : Option (List ℕ)). placed places (option_map reborn_at ns)) (numbers-decimal (p ∷ ps) (small-places (p ∷ ps) h))
+    ap (λ (ns : Option (List ℕ)). placed places (option_map reborn_at ns)) (all_numbers-decimal (p ∷ ps) (small-places (p ∷ ps) h))
     ∙ ap (λ (qs : List ℕ). placed places (Some (line.Step (event.Recover qs)))) (places-more [] (p ∷ ps) h.rise)
 words-say places (line.Step event.Repair) h = refl
 words-say places (line.Step event.Discard) h = refl
@@ -160,15 +164,11 @@ line-said places l is within =
     ∙ words-say places l is
     ∙ cond-true _ (Found l) Misplaced within
 
--- a line of plain bytes, before others
-line-before : (places : ℕ) (text more : List ℕ) → All IsPlain text → lines_of places (text ++ 10 ∷ more) ≡ line_of places text ∷ lines_of places more
-line-before places text more plain = ap (map (line_of places)) (slice_split_at is_line_end text 10 more (λ k x lt. (plain k x lt).no_end) refl)
-
 pub lines-said : (places : ℕ) (ls : List Line) → All IsLine ls → All (IsWithin places) ls → lines_of places (schedule_text ls) ≡ map Found ls ++ Skipped ∷ []
 lines-said places [] are within = refl
 lines-said places (l ∷ ls) are within =
     let is : IsLine l = are 0 l (omega arith) in
     let more = schedule_text ls in
     ap (lines_of places) (line-words l more)
-    ∙ line-before places (spaced (first_word l) (other_words l)) more (plain-spaced (first_word l) (other_words l) (first-is_word l) (others-are_words l is))
+    ∙ words-before (line_of places) (first_word l) (other_words l) more (first-is_word l) (others-are_words l is)
     ∙ (λ t. line-said places l is (within 0 l (omega arith)) t ∷ lines-said places ls (λ k d lt. are (suc k) d (omega arith)) (λ k d lt. within (suc k) d (omega arith)) t)

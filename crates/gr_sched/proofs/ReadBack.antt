@@ -12,7 +12,7 @@ use Rattle.gr_sched.specs.declared.line.LineFound.TheVariants.{Skipped, Found}
 use Rattle.gr_sched.specs.Reading.{said, schedule_of, fault_of_line, fault_of_count, fault_at, first_fault, max_events}
 use Rattle.gr_sched.specs.Text.{line_text, schedule_text}
 use Rattle.gr_sched.specs.Printed.{IsLine, IsWithin, IsReadAs}
-use Rattle.gr_sched.proofs.FirstFault.{none-found}
+use Rattle.gr_text.proofs.Faults.{first_fault_by-none}
 use Rattle.gr_sched.proofs.Printed.{lines-said}
 
 -- one line more
@@ -36,7 +36,7 @@ IsSound l = (number : ℕ) → fault_of_line number l ≡ None
 -- lines with no fault of their own, and not too many
 no-fault : (found : List LineFound) → All IsSound found → length (schedule_of found) ≤ max_events → first_fault found ≡ None
 unfolding IsSound
-no-fault found sound few = none-found (fault_at max_events found) 0 (length found) (λ i le lt.
+no-fault found sound few = first_fault_by-none (fault_at max_events found) (length found) (λ i lt.
     let no_more : ltb max_events (length (schedule_of (take (i + 1) found))) ≡ false = le-ltb _ _ (omega (arith, few, schedule-grows found (i + 1))) in
     (λ t. option_or (sound i Skipped (omega arith) (i + 1) t) (fault_of_count max_events (i + 1) (schedule_of (take (i + 1) found))))
     ∙ cond-false _ _ _ no_more)

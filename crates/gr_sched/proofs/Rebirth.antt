@@ -3,6 +3,7 @@ use Rattle.std.proofs.Common.{◌≡◌, ◌∙◌, ℕ, Bool, true, false, not,
 use Rattle.std.specs.Prelude.{◌&&◌, ◌||◌, option_map}
 use Rattle.std.specs.List.{fold, list_all}
 use Rattle.std.proofs.lemmas.Bool.{cases_lt, cond-true, cond-false, lt-ltb, le-ltb, le-leb, lt-leb}
+use Rattle.std.proofs.Math.Bool.{and-true, and_assoc, and_comm, and_self_left, or-false, or-true}
 use Rattle.gr_base.specs.Places.{with_place}
 use Rattle.gr_sched.specs.declared.event.Event.TheVariants as event
 use Rattle.gr_sched.specs.declared.event.Line.TheVariants as line
@@ -16,23 +17,8 @@ abbrev pub reborn_from : ℕ → List ℕ → Bool → Option (List ℕ) → Lin
 reborn_from places set outside None = Bad
 reborn_from places set outside (Some ns) = cond (outside || not (are_below places ns)) Misplaced (Found (line.Step (event.Recover (fold with_place set ns))))
 
-swap_and : (a b c : Bool) → (a && (b && c)) ≡ (b && (a && c))
-swap_and true true c = refl
-swap_and true false c = refl
-swap_and false true c = refl
-swap_and false false c = refl
-
-twice_and : (a c : Bool) → (a && c) ≡ (a && (a && c))
-twice_and true c = refl
-twice_and false c = refl
-
-or_false : (a : Bool) → (a || false) ≡ a
-or_false true = refl
-or_false false = refl
-
-or_true : (a : Bool) → (a || true) ≡ true
-or_true true = refl
-or_true false = refl
+regroup : (a b c : Bool) → ((a && b) && c) ≡ (b && (a && c))
+regroup a b c = ap (λ (t : Bool). t && c) (and_comm a b) ∙ and_assoc b a c
 
 -- a test of all places, with one more
 all-with_place : (p : ℕ → Bool) (qs : List ℕ) (n : ℕ) → list_all p (with_place qs n) ≡ (p n && list_all p qs)
@@ -44,29 +30,19 @@ all-with_place p (q ∷ qs) n = elim (cases_lt n q) [
       elim (cases_lt q n) [
         | inl lt ↦
             ap (list_all p) (first ∙ cond-true (ltb q n) (q ∷ with_place qs n) (q ∷ qs) (lt-ltb q n lt))
-            ∙ ap (λ (b : Bool). p q && b) (all-with_place p qs n) ∙ swap_and (p q) (p n) (list_all p qs)
+            ∙ ap (λ (b : Bool). p q && b) (all-with_place p qs n) ∙ sym (and_assoc (p q) (p n) (list_all p qs)) ∙ regroup (p q) (p n) (list_all p qs)
         | inr le ↦
             let same : n ≡ q = omega arith in
             ap (list_all p) (first ∙ cond-false (ltb q n) (q ∷ with_place qs n) (q ∷ qs) (le-ltb q n le))
-            ∙ twice_and (p q) (list_all p qs) ∙ ap (λ (m : ℕ). p m && (p q && list_all p qs)) (sym same)
+            ∙ sym (and_self_left (p q) (list_all p qs)) ∙ ap (λ (m : ℕ). p m && (p q && list_all p qs)) (sym same)
       ]
 ]
 
 all-fold : (p : ℕ → Bool) (set ns : List ℕ) → list_all p (fold with_place set ns) ≡ (list_all p set && list_all p ns)
-all-fold p set [] = and_true (list_all p set)
-  where
-    and_true : (a : Bool) → a ≡ (a && true)
-    and_true true = refl
-    and_true false = refl
+all-fold p set [] = sym (and-true (list_all p set))
 all-fold p set (n ∷ ns) =
     all-fold p (with_place set n) ns ∙ ap (λ (b : Bool). b && list_all p ns) (all-with_place p set n)
     ∙ regroup (p n) (list_all p set) (list_all p ns)
-  where
-    regroup : (a b c : Bool) → ((a && b) && c) ≡ (b && (a && c))
-    regroup true true c = refl
-    regroup true false c = refl
-    regroup false true c = refl
-    regroup false false c = refl
 
 module _ (places : ℕ) where
   from_none : (b : Bool) (set ns : List ℕ) → are_below places (fold with_place [] ns) ≡ b → are_below places ns ≡ b → cond (not (are_below places ns)) Misplaced (Found (reborn_at ns)) ≡ placed places (Some (reborn_at ns))
@@ -81,8 +57,8 @@ module _ (places : ℕ) where
   from_more : (set : List ℕ) (outside : Bool) (p : ℕ) (ns : Option (List ℕ)) → reborn_from places set outside (with_number (Some p) ns) ≡ reborn_from places (cond (ltb p places) (with_place set p) set) (outside || leb places p) ns
   from_more set outside p None = refl
   from_more set outside p (Some ns) = elim (cases_lt p places) [
-    | inl lt ↦ rw (lt-ltb p places lt, lt-leb places p lt, or_false outside) refl
-    | inr ge ↦ rw (le-ltb p places ge, le-leb places p ge, or_true outside) refl
+    | inl lt ↦ rw (lt-ltb p places lt, lt-leb places p lt, or-false outside) refl
+    | inr ge ↦ rw (le-ltb p places ge, le-leb places p ge, or-true outside) refl
   ]
 
   -- one field more

@@ -1,23 +1,8 @@
--- The words of a line.
-use Rattle.std.specs.Prelude.{ℕ, ◌-◌, ◌^◌, Bool, ◌==◌, ◌&&◌, ◌||◌, nat_lt, if◌then◌else◌, List, [], ◌∷◌, length, take, slice_index, Option, Some, None}
-use Rattle.std.specs.List.{filter, slice_split, list_all}
+-- The numbers among the words of a line.
+use Rattle.std.specs.Prelude.{ℕ, ◌^◌, ◌&&◌, nat_lt, if◌then◌else◌, List, [], ◌∷◌, Option, Some, None}
+use Rattle.std.specs.List.{list_all}
 use Rattle.std.specs.Char.{is_ascii_digit}
 use Rattle.std.specs.Str.Parse.{digits_value}
-
-abbrev pub is_line_end : ℕ → Bool
-is_line_end b = b == 10
-
--- a space or a tab
-abbrev pub is_blank : ℕ → Bool
-is_blank b = b == 32 || b == 9
-
--- a line without the one carriage return at its end, if it has one
-abbrev pub without_return_of : List ℕ → List ℕ
-without_return_of line = if slice_index line (length line - 1) == 13 then take (length line - 1) line else line
-
--- the pieces between blanks that are not empty
-abbrev pub fields_of : List ℕ → List (List ℕ)
-fields_of text = filter (λ f. nat_lt 0 (length f)) (slice_split is_blank text)
 
 -- the number of a field: digits alone, below 2 ^ 32
 abbrev pub number_of : List ℕ → Option ℕ

@@ -1,9 +1,12 @@
 -- The schedule that a text says, or the fault of its first faulty line.
-use Rattle.std.specs.Prelude.{ℕ, ◌+◌, Bool, ◌==◌, nat_lt, if◌then◌else◌, List, [], ◌∷◌, length, map, take, codes, slice_get, slice_index, slice_index_or, Option, Some, None, option_map}
-use Rattle.std.specs.List.{slice_split, flat_map, filter_map, fold, list_all, range_with_len}
+use Rattle.std.specs.Prelude.{ℕ, ◌+◌, Bool, ◌==◌, nat_lt, if◌then◌else◌, List, [], ◌∷◌, length, map, take, codes, slice_index, slice_index_or, Option, Some, None, option_map}
+use Rattle.std.specs.List.{slice_split, flat_map, fold, list_all}
 use Rattle.std.specs.Str.{bytes_eq}
 use Rattle.std.specs.Option.{option_or}
 use Rattle.gr_base.specs.Places.{with_place}
+use Rattle.gr_text.specs.Faults.{first_fault_by}
+use Rattle.gr_text.specs.Fields.{fields_of}
+use Rattle.gr_text.specs.Lines.{is_line_end, without_return_of}
 use Rattle.gr_sched.specs.declared.event.Event.TheVariants as event
 use Rattle.gr_sched.specs.declared.event.Line.{Line}
 use Rattle.gr_sched.specs.declared.event.Line.TheVariants as line
@@ -13,7 +16,7 @@ use Rattle.gr_sched.specs.declared.line.LineFound.{LineFound}
 use Rattle.gr_sched.specs.declared.line.LineFound.TheVariants.{Skipped, Found, Misplaced, Bad}
 use Rattle.gr_sched.specs.declared.fault.SchedFault.{SchedFault}
 use Rattle.gr_sched.specs.declared.fault.SchedFault.TheVariants.{BadLine, PlaceOutOfRange, TooManyEvents}
-use Rattle.gr_sched.specs.Fields.{is_line_end, without_return_of, fields_of, number_of, only_number, all_numbers}
+use Rattle.gr_sched.specs.Fields.{number_of, only_number, all_numbers}
 
 -- how many event lines a schedule may have
 abbrev pub max_events : ℕ
@@ -126,7 +129,7 @@ fault_at limit found i =
 
 -- the fault of the first line that shows one; lines are numbered from 1
 abbrev pub first_fault_within : ℕ → List LineFound → Option SchedFault
-first_fault_within limit found = slice_get (filter_map (fault_at limit found) (range_with_len 0 (length found))) 0
+first_fault_within limit found = first_fault_by (fault_at limit found) (length found)
 
 abbrev pub first_fault : List LineFound → Option SchedFault
 first_fault = first_fault_within max_events

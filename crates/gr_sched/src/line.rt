@@ -1,11 +1,13 @@
 ghost use Rattle.std.specs.Prelude.{◌≡◌, ◌≤◌, [], nat_lt, if◌then◌else◌, option_map};
 ghost use Rattle.gr_base.specs.Places.{with_place};
-ghost use Rattle.gr_sched.specs.Fields.{fields_of, all_numbers};
+ghost use Rattle.gr_text.specs.Fields.{fields_of};
+ghost use Rattle.gr_sched.specs.Fields.{all_numbers};
 ghost use Rattle.gr_sched.specs.Reading.{keyword_of, bare, kept_of, crash_at, crash_of, reborn_at, rebirth_of, recover_of, said_by, places_of, placed, line_of};
 
 use crate::event::{Event, Line};
-use crate::field::{next_field, read_number, read_only_number, without_return};
+use crate::field::{read_number, read_only_number};
 use gr_base::PlaceSet;
+use gr_text::{next_field, without_return};
 
 /// What a line says.
 #[derive(Clone, Copy, Debug, PartialEq, Eq)]

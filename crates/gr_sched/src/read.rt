@@ -1,13 +1,12 @@
 ghost use Rattle.std.specs.Prelude.{◌≡◌, ◌≤◌, ◌⊎◌, [], ◌++◌, length, Some, None, OnOk, IfOk, IfErr};
-ghost use Rattle.std.specs.List.{position_or_len};
 ghost use Rattle.std.specs.Option.{option_or};
-ghost use Rattle.gr_sched.specs.Fields.{is_line_end};
 ghost use Rattle.gr_sched.specs.Reading.{max_events, lines_of, said, schedule_of, fault_of_line, fault_of_count, first_fault};
 
 use crate::event::Line;
 use crate::fault::SchedFault;
 use crate::line::{LineFound, read_line};
 use gr_base::{Items, OutOfMemory};
+use gr_text::line_len;
 use std::alloc::Global;
 
 const MAX_EVENTS: usize = 200000;
@@ -52,19 +51,6 @@ fn take_lines(lines: &mut Items<Line>, bytes: &[u8], places: u8) -> Result<(), S
         rest = &rest[len + 1..];
         done += 1;
     }
-}
-
-// How many bytes stand before the first line end.
-fn line_len(text: &[u8]) -> usize
-    ensures count { result ≡ position_or_len is_line_end text.now }
-    ensures within { result ≤ length text.now }
-{
-    for (i, b) in text.iter().enumerate() {
-        if *b == b'\n' {
-            return i;
-        }
-    }
-    text.len()
 }
 
 // Takes what the line with this number says.

@@ -1,5 +1,4 @@
 pub mod Behaviours
-pub mod Ids
 pub mod Lines
 pub mod Outcomes
 pub mod Plans

@@ -4,8 +4,9 @@ use Rattle.std.specs.Prelude.{IsTrue}
 use Rattle.std.specs.List.{All, AllByRecursion as Each, list_all, slice_split}
 use Rattle.std.proofs.lemmas.Bool.{false≢true}
 use Rattle.std.proofs.lemmas.List.Elements.{All-from_recursion}
+use Rattle.gr_text.specs.Fields.{fields_of}
+use Rattle.gr_text.specs.Lines.{is_line_end, without_return_of}
 use Rattle.gr_sched.specs.declared.event.Line.{Line}
-use Rattle.gr_sched.specs.Fields.{is_line_end, fields_of, without_return_of}
 use Rattle.gr_sched.specs.Reading.{are_below, places_of, placed, said_by, keyword_of, of_fields, line_of, lines_of, said, schedule_of}
 use Rattle.gr_lists.proofs.Tests.{by_test}
 use Rattle.gr_lists.proofs.Each.{Each-append}

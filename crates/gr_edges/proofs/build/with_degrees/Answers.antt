@@ -1,5 +1,6 @@
-use Rattle.std.proofs.Common.{◌≡◌, ℕ, List, map, length, take, ◌++◌, refl, sym, ap, ◌∙◌, subst, arith}
+use Rattle.std.proofs.Common.{◌≡◌, ℕ, ◌<◌, ◌^◌, List, map, length, take, ◌++◌, refl, sym, ap, ◌∙◌, subst, arith}
 use Rattle.std.specs.List.{All}
+use Rattle.std.proofs.lemmas.List.Elements.{All-map}
 use Rattle.gr_base.specs.declared.records.Edge.{Edge}
 use Rattle.gr_base.specs.Rising.{RisesBy}
 use Rattle.gr_base.proofs.Rising.{keys-rise}
@@ -24,6 +25,7 @@ invariant_of-result c =
       rise = subst (RisesBy id_of) (sym are) (made-rise (vertex_of c.args.edges) (λ v. refl) ns (keys-rise id_of c.args.vertices.items c.requires.rise));
       degrees = subst (All (HasDegrees c.args.edges)) (sym are) (each-made (vertex_of c.args.edges) (λ v. refl) (HasDegrees c.args.edges) ns (λ v. record { indeg = refl; outdeg = refl }));
       ends = subst (λ (ms : List ℕ). All (HasEnds ms) c.args.edges) (sym (ap ids are ∙ ids-made (vertex_of c.args.edges) (λ v. refl) ns)) c.requires.ends;
+      small = subst (All (λ (v : VertexInfo). v.id < 2 ^ 32)) (sym are) (All-map (λ v. v.id < 2 ^ 32) (vertex_of c.args.edges) ns (All-map (λ n. n < 2 ^ 32) id_of c.args.vertices.items c.requires.small));
     }
 
 pub returns : goal.returns

@@ -1,5 +1,6 @@
 use Rattle.std.proofs.Common.{◌∙◌, List, ℕ, false, ap}
-use Rattle.gr_sched.specs.Fields.{fields_of, all_numbers}
+use Rattle.gr_text.specs.Fields.{fields_of}
+use Rattle.gr_sched.specs.Fields.{all_numbers}
 use Rattle.gr_sched.proofs.Rebirth.{reborn_from, reborn-none}
 use Rattle.gr_sched.proofs.line.read_places.Goals as goal
 

@@ -1,6 +1,7 @@
 use Rattle.std.proofs.Common.{◌≡◌, length}
 use Rattle.std.specs.Prelude.{option_map}
-use Rattle.gr_sched.specs.Fields.{fields_of, all_numbers}
+use Rattle.gr_text.specs.Fields.{fields_of}
+use Rattle.gr_sched.specs.Fields.{all_numbers}
 use Rattle.gr_sched.specs.Reading.{reborn_at, placed}
 use Rattle.gr_sched.proofs.Rebirth.{reborn_from}
 use Rattle.gr_sched.proofs.line.read_places.Given as goal

@@ -1,5 +1,9 @@
+use Rattle.std.proofs.Common.{◌<◌, ◌^◌}
+use Rattle.std.proofs.lemmas.List.Elements.{recursion_from_All}
+use Rattle.gr_lists.proofs.Maps.{Each-map}
+use Rattle.gr_edges.specs.declared.graph.VertexInfo.{VertexInfo}
+use Rattle.gr_edges.specs.Vertices.{id_of}
 use Rattle.gr_job.specs.Job.{values_of}
-use Rattle.imitate.proofs.Ids.{ids-fit}
 use Rattle.imitate.proofs.Readings.{task-job_refused, task-graph_refused, task-read}
 use Rattle.imitate.proofs.reading.read_work.Goals as goal
 
@@ -16,4 +20,6 @@ returns-clause-read c =
     c.in-Ok-read_graph.ensures.accepted c.in-Ok-read_graph.ensures.edges c.in-Ok-read_graph.ensures.vertices
 
 pub returns-clause-ids_fit : goal.returns-clause-ids_fit
-returns-clause-ids_fit c = rw c.in-Ok-read_graph.ensures.vertices (ids-fit c.in-Ok.job.undirected c.args.graph.now)
+returns-clause-ids_fit c =
+    let graph = c.in-Ok-read_graph.graph in
+    Each-map (λ v. v < 2 ^ 32) id_of graph.vertices (recursion_from_All (λ (v : VertexInfo). v.id < 2 ^ 32) graph.vertices graph.small)

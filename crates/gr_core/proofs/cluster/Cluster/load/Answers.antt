@@ -1,6 +1,5 @@
 use Rattle.std.proofs.Common.{◌≡◌, ◌∙◌, ◌<◌, ◌^◌, length, nat_lt, ap, sym, subst, arith}
 use Rattle.std.specs.Prelude.{IsTrue}
-use Rattle.std.specs.List.{All}
 use Rattle.std.proofs.lemmas.List.{length-map}
 use Rattle.std.proofs.lemmas.List.Elements.{recursion_from_All}
 use Rattle.gr_base.specs.declared.records.Edge.{Edge}
@@ -38,10 +37,9 @@ invariant_of-result g c =
       some_round = job.some_rounds;
       few_rounds = job.most_rounds;
     } in
-    let fits : All (λ (v : VertexInfo). v.id < 2 ^ 32) xs = subst (All (λ (v : VertexInfo). v.id < 2 ^ 32)) c.as_slice-2.ensures c.read_ids.ensures in
     let whole : IsGraph es vs = record {
       rise = map-rises id_of (λ v. v) xs graph.rise;
-      ids = Each-map (λ v. v < 2 ^ 32) id_of xs (recursion_from_All (λ (v : VertexInfo). v.id < 2 ^ 32) xs fits);
+      ids = Each-map (λ v. v < 2 ^ 32) id_of xs (recursion_from_All (λ (v : VertexInfo). v.id < 2 ^ 32) xs graph.small);
       sources = recursion_from_All (λ (e : Edge). IsTrue (has vs e.src)) es (λ k d lt. (graph.ends k d lt).src);
       targets = recursion_from_All (λ (e : Edge). IsTrue (has vs e.dst)) es (λ k d lt. (graph.ends k d lt).dst);
       few_vertices = rw (length-map xs id_of) c.requires.vertices;
