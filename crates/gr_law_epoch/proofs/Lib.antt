@@ -1,0 +1,6 @@
+mod Opened
+mod Batches
+mod Parties
+mod Agrees
+mod Anew
+mod Repair
