@@ -24,7 +24,7 @@ module _ {V A : Type 0} (P : Program V A) (t : Truth V) (c : Cluster V A) (AG : 
       let ih = none-counted vs in let more = count_by-cons (λ v. active_next P t v && has [] (t.master v)) v vs in
       let one : cond {A = ℕ} (active_next P t v && false) 1 0 ≡ 0 = ap (λ b. cond b 1 0) (and_right (active_next P t v) false refl) in omega (arith, ih, more, one)
 
-  opened-agrees : Agree P t (opened t c x)
+  pub opened-agrees : Agree P t (opened t c x)
   opened-agrees = record {
     committed = record {
       shaped = O.shaped;

@@ -11,7 +11,9 @@ use Rattle.gr_cluster.specs.Tables.{Cluster}
 use Rattle.gr_agree.specs.Truth.{Truth}
 use Rattle.gr_agree.specs.Places.{may_have_dead}
 use Rattle.gr_agree.specs.Agree.{Agree}
-use Rattle.gr_law_epoch.proofs.Opened.{Change, Opens}
+use Rattle.gr_law_network.specs.Law.{IsKept}
+use Rattle.gr_law_epoch.proofs.Opened.{Change, opened, Opens}
+use Rattle.gr_law_epoch.proofs.Agrees.{opened-agrees}
 
 -- a mode with open work is not the end
 pub open-not_done : (m : Mode) → is_open m ≡ true → m ≢ mode.Done
@@ -37,7 +39,7 @@ module _ {V A : Type 0} (P : Program V A) (t : Truth V) (c : Cluster V A) (AG : 
     no-reborn : c.coordinator.reborn ≡ []
     no-reborn = AG.committed.places.none_reborn (no-dead-in_recovery c.coordinator.mode none_dead)
 
-    pub anew-opens : Opens t c anew
+    anew-opens : Opens t c anew
     anew-opens = record {
       shaped = let S = AG.committed.shaped in record {
         few = S.few;
@@ -67,3 +69,18 @@ module _ {V A : Type 0} (P : Program V A) (t : Truth V) (c : Cluster V A) (AG : 
       logs = λ p. refl;
       hosts = λ p h at. inl (record { was = at; not_reborn = ap (λ l. has l p) no-reborn });
     }
+
+    pub anew-kept : IsKept P t c (opened t c anew)
+    anew-kept = (
+      record {
+        rows = λ p. refl;
+        arcs = λ p. refl;
+        logs = λ p. refl;
+        spares = refl;
+        live = refl;
+        dead = refl;
+        retired = refl;
+        reborn = refl;
+      },
+      opened-agrees P t c AG anew anew-opens,
+    )

@@ -4,3 +4,8 @@ mod Parties
 mod Agrees
 mod Anew
 mod Repair
+mod Tables
+mod Places
+mod Returns
+mod Crashes
+mod Discard

@@ -11,26 +11,26 @@ use Rattle.gr_cluster.specs.Step.{with_coordinator, opened_or_idle, repaired, st
 use Rattle.gr_agree.specs.Truth.{Truth}
 use Rattle.gr_agree.specs.Places.{may_have_dead}
 use Rattle.gr_agree.specs.Agree.{Agree}
-use Rattle.gr_law_epoch.specs.Law.{IsLater, IsNewEpoch}
+use Rattle.gr_law_network.specs.Law.{IsKept}
+use Rattle.gr_law_epoch.specs.Law.{IsNewEpoch}
 use Rattle.gr_lists.proofs.Tests.{by_test}
-use Rattle.gr_law_epoch.proofs.Agrees.{opened-later}
-use Rattle.gr_law_epoch.proofs.Anew.{anew, anew-opens}
+use Rattle.gr_law_epoch.proofs.Anew.{anew-kept}
 
 module _ {V A : Type 0} (P : Program V A) (t : Truth V) (c : Cluster V A) (AG : Agree P t c) where
   abbrev Keeps : Cluster V A → Type 0
-  Keeps d = IsNewEpoch c d → IsLater P t c d
+  Keeps d = IsNewEpoch c d → IsKept P t c d
 
   by-mode : (m : Mode) → c.coordinator.mode ≡ m → Keeps (opened_or_idle c (at_repair c.coordinator m).1 (with_coordinator (at_repair c.coordinator m).0 c)).0
   unfolding at_repair
-  by-mode mode.Running e = λ new. opened-later P t c AG (anew P t c AG mode.Repairing) (anew-opens P t c AG mode.Repairing (ap is_open e) (ap may_have_dead e) refl refl)
+  by-mode mode.Running e = λ new. anew-kept P t c AG mode.Repairing (ap is_open e) (ap may_have_dead e) refl refl
   by-mode mode.Failed e = λ new. absurd (new refl)
   by-mode mode.Recovering e = λ new. absurd (new refl)
   by-mode mode.Repairing e = λ new. absurd (new refl)
   by-mode mode.Done e = λ new. absurd (new refl)
   by-mode mode.Lost e = λ new. absurd (new refl)
 
-  pub repair-later : Keeps (step P c event.Repair).0
+  pub repair-kept : Keeps (step P c event.Repair).0
   unfolding step repaired
-  repair-later = by_test (is_over c.coordinator.mode)
+  repair-kept = by_test (is_over c.coordinator.mode)
       (λ o. rw o (λ new. absurd (new refl)))
       (λ o. rw o (by-mode c.coordinator.mode refl))

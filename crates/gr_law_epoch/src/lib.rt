@@ -1,9 +1,28 @@
 //! The laws of a new epoch that opens without a commit.
 #![tactic(auto)]
 
-ghost use Rattle.gr_law_epoch.specs.Law.{RepairKeeps};
+ghost use Rattle.gr_law_epoch.specs.Law.{DiscardKeeps, DiscardOfRecoveryKeeps, FailureKeeps, RepairKeeps};
 
 /// A repair that opens changes nothing that is committed, and the cluster agrees with the same committed state.
 pub fn a_repair_keeps<V, A>()
     ensures { RepairKeeps V A }
+{}
+
+/// After a barrier that finds crashed places nothing that is committed has changed where a place is still live, nor in
+/// any committed log, and the cluster agrees with the same committed state: the crashed places are dead, and the hosts
+/// of reborn places are back among the spares.
+pub fn a_failure_keeps<V, A>()
+    ensures { FailureKeeps V A }
+{}
+
+/// A discard of a round or of a repair changes nothing that is committed, and the cluster agrees with the same
+/// committed state.
+pub fn a_discard_keeps<V, A>()
+    ensures { DiscardKeeps V A }
+{}
+
+/// A discard of a recovery changes nothing that is committed at a live place, nor in any log, and the cluster agrees
+/// with the same committed state: the hosts of reborn places are back among the spares.
+pub fn a_discard_of_a_recovery_keeps<V, A>()
+    ensures { DiscardOfRecoveryKeeps V A }
 {}
