@@ -9,3 +9,6 @@ mod Places
 mod Returns
 mod Crashes
 mod Discard
+mod Lost
+mod Recovery
+mod Whole

@@ -46,10 +46,10 @@ module _ {V A : Type 0} (P : Program V A) (t : Truth V) (c : Cluster V A) (AG : 
     pub crashed : (p : ℕ) → has ps p ≡ true → is_up c p ≡ false
 
   host-returned : (p : ℕ) → host d p ≡ (if has back p then None else host c p)
-  host-returned p = get_or-changed_at back (λ _ _. None) c.hosts p None (λ le. refl)
+  host-returned p = get_or-changed_at back (λ _ _. None) c.hosts p None refl
 
   log-returned : (p : ℕ) → log d p ≡ (if has back p then cut_log (log c p) else log c p)
-  log-returned p = get_or-changed_at back (λ _. cut_log) c.logs p empty_log (λ le. refl)
+  log-returned p = get_or-changed_at back (λ _. cut_log) c.logs p empty_log refl
 
   -- a place that goes back is down, and each other has its host
   goes-down : (p : ℕ) → has back p ≡ true → host d p ≡ None

@@ -1,7 +1,8 @@
 //! The laws of a new epoch that opens without a commit.
 #![tactic(auto)]
 
-ghost use Rattle.gr_law_epoch.specs.Law.{DiscardKeeps, DiscardOfRecoveryKeeps, FailureKeeps, RepairKeeps};
+ghost use Rattle.gr_agree.specs.Laws.{KeepsInANewEpoch};
+ghost use Rattle.gr_law_epoch.specs.Law.{DiscardKeeps, DiscardOfRecoveryKeeps, FailureKeeps, RecoveryKeeps, RepairKeeps};
 
 /// A repair that opens changes nothing that is committed, and the cluster agrees with the same committed state.
 pub fn a_repair_keeps<V, A>()
@@ -25,4 +26,18 @@ pub fn a_discard_keeps<V, A>()
 /// with the same committed state: the hosts of reborn places are back among the spares.
 pub fn a_discard_of_a_recovery_keeps<V, A>()
     ensures { DiscardOfRecoveryKeeps V A }
+{}
+
+/// A recovery that opens changes nothing that is committed at a live place, nor in any log, and the cluster agrees with
+/// the same committed state: each reborn place begins the epoch with what its committed log says, without values, and
+/// some holder of each vertex is not dead.
+pub fn a_recovery_keeps<V, A>()
+    ensures { RecoveryKeeps V A }
+{}
+
+/// Every event that opens a new epoch without a commit is a failure, a recovery, a repair or a discard. It changes
+/// nothing that is committed at a place that stays live, nor in any committed log, and the cluster agrees with the same
+/// committed state.
+pub fn a_new_epoch_keeps<V, A>()
+    ensures { KeepsInANewEpoch V A }
 {}
