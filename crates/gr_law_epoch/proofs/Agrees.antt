@@ -1,29 +1,18 @@
 -- A cluster that opens its next epoch agrees with the same committed state.
-use Rattle.std.proofs.Common.{◌≡◌, ℕ, List, [], ◌∷◌, false, cond, ◌&&◌, refl, ap, ◌∙◌, subst, sym, arith}
-use Rattle.std.specs.Prelude.{count_by}
-use Rattle.std.proofs.lemmas.Bool.{and_right}
-use Rattle.gr_base.specs.Rising.{has}
+use Rattle.std.proofs.Common.{refl, ap, ◌∙◌, subst, sym, arith}
 use Rattle.gr_program.specs.Program.{Program}
 use Rattle.gr_log.specs.Directory.{directory_in, edges_in, KeepsEachOnce}
-use Rattle.gr_cluster.specs.Tables.{Cluster, host}
+use Rattle.gr_cluster.specs.Tables.{Cluster}
 use Rattle.gr_agree.specs.Truth.{Truth}
 use Rattle.gr_agree.specs.TrueRound.{active_next}
-use Rattle.gr_agree.specs.Hosts.{HostHolds}
 use Rattle.gr_agree.specs.Agree.{Agree}
-use Rattle.gr_lists.proofs.Counts.{count_by-cons}
-use Rattle.gr_law_network.proofs.Later.{batch-later}
-use Rattle.gr_law_epoch.proofs.Opened.{Change, next_coordinator, opened, Opens, live-same}
+use Rattle.gr_law_network.proofs.Later.{none-reported}
+use Rattle.gr_law_epoch.proofs.Opened.{Change, opened, Opens, live-same}
 use Rattle.gr_law_epoch.proofs.Batches.{network-later}
 use Rattle.gr_law_epoch.proofs.Parties.{host-later, reborn-later, unready-later}
 use Rattle.gr_law_epoch.specs.Law.{IsLater}
 
 module _ {V A : Type 0} (P : Program V A) (t : Truth V) (c : Cluster V A) (AG : Agree P t c) (x : Change V A) (O : Opens t c x) where
-  none-counted : (vs : List ℕ) → count_by (λ v. active_next P t v && has [] (t.master v)) vs ≡ 0
-  none-counted [] = refl
-  none-counted (v ∷ vs) =
-      let ih = none-counted vs in let more = count_by-cons (λ v. active_next P t v && has [] (t.master v)) v vs in
-      let one : cond {A = ℕ} (active_next P t v && false) 1 0 ≡ 0 = ap (λ b. cond b 1 0) (and_right (active_next P t v) false refl) in omega (arith, ih, more, one)
-
   pub opened-agrees : Agree P t (opened t c x)
   opened-agrees = record {
     committed = record {
@@ -49,7 +38,7 @@ module _ {V A : Type 0} (P : Program V A) (t : Truth V) (c : Cluster V A) (AG : 
       reports = record {
         ready = λ q h at party. unready-later P t c AG x O q h at;
         none = λ e. (refl, refl);
-        due = λ e. sym (none-counted t.vertices);
+        due = λ e. sym (none-reported (active_next P t) t.master t.vertices);
         due_bounded = λ e. omega arith;
       };
     };

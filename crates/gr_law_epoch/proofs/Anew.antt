@@ -1,5 +1,5 @@
 -- The open work begins anew, where no place is dead: only the mode changes.
-use Rattle.std.proofs.Common.{◌≡◌, ◌≢◌, ◌<◌, ℕ, List, [], true, false, refl, sym, ap, ◌∙◌, inl}
+use Rattle.std.proofs.Common.{◌≡◌, ◌≢◌, ◌<◌, [], true, false, refl, sym, ap, ◌∙◌, inl}
 use Rattle.gr_base.specs.Rising.{has}
 use Rattle.gr_base.proofs.Rising.{rises-nil}
 use Rattle.gr_program.specs.Program.{Program}

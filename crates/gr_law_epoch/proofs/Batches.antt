@@ -1,9 +1,8 @@
 -- The batches in the next epoch: those of before are old, and nobody has sent.
-use Rattle.std.proofs.Common.{◌≡◌, ℕ, ◌+◌, ◌≤◌, List, [], ◌∷◌, Bool, true, false, cond, ◌==◌, ◌&&◌, ◌||◌, nat_lt, refl, sym, ap, ◌∙◌, subst, arith, Option, Some, None, ne_eqb, ⊎_elim, le-ltb}
+use Rattle.std.proofs.Common.{◌≡◌, ℕ, ◌+◌, ◌≤◌, List, [], false, cond, ◌&&◌, ◌||◌, nat_lt, refl, sym, ap, ◌∙◌, subst, arith, Some, ne_eqb, ⊎_elim, le-ltb}
 use Rattle.std.specs.Prelude.{count_by}
 use Rattle.std.specs.List.{AllByRecursion as Each}
 use Rattle.std.proofs.lemmas.Bool.{and_left, and_right}
-use Rattle.gr_base.specs.Rising.{has}
 use Rattle.gr_program.specs.Program.{Program}
 use Rattle.gr_batch.specs.declared.batch.Batch.{Batch}
 use Rattle.gr_batch.specs.declared.stage.Stage.{Stage}
@@ -18,7 +17,7 @@ use Rattle.gr_lists.proofs.Tests.{by_option}
 use Rattle.gr_lists.proofs.Each.{Each-weaker}
 use Rattle.gr_law_network.proofs.Kept.{epoch-le}
 use Rattle.gr_law_network.proofs.Later.{none-of-above, none-from-above, batch-later}
-use Rattle.gr_law_epoch.proofs.Opened.{Change, next_coordinator, opened, IsStaying, IsReborn, Opens}
+use Rattle.gr_law_epoch.proofs.Opened.{Change, next_coordinator, opened, Opens}
 
 module _ {V A : Type 0} (P : Program V A) (t : Truth V) (c : Cluster V A) (AG : Agree P t c) (x : Change V A) (O : Opens t c x) where
   abbrev d : Cluster V A

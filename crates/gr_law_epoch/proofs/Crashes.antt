@@ -1,7 +1,6 @@
 -- A barrier that finds crashed places.
-use Rattle.std.proofs.Common.{◌≡◌, ◌≢◌, ℕ, ◌+◌, List, [], ◌∷◌, Bool, true, false, cond, not, ◌&&◌, ◌||◌, refl, sym, ap, ◌∙◌, subst, arith, inl, inr, ◌⊎◌}
-use Rattle.std.specs.Prelude.{IsTrue, if◌then◌else◌}
-use Rattle.std.proofs.lemmas.Bool.{and_left, and_parts}
+use Rattle.std.proofs.Common.{◌≡◌, ◌≢◌, ℕ, ◌+◌, List, [], ◌∷◌, Bool, true, false, cond, not, ◌&&◌, ◌||◌, refl, sym, ap, ◌∙◌, subst, inl, inr}
+use Rattle.std.proofs.lemmas.Bool.{and_parts, or_left}
 use Rattle.gr_base.specs.Rising.{has, union, without}
 use Rattle.gr_base.specs.Places.{IsPlaces}
 use Rattle.gr_base.proofs.Union.{has-union}
@@ -10,7 +9,7 @@ use Rattle.gr_batch.specs.declared.outcome.Outcome.{Outcome}
 use Rattle.gr_sched.specs.declared.event.Event.TheVariants as event
 use Rattle.gr_view.specs.declared.coordinator.Mode.TheVariants as mode
 use Rattle.gr_view.specs.Modes.{is_over, is_failed}
-use Rattle.gr_view.specs.Decisions.{parties, looked_at, unready, verdict_on, at_barrier}
+use Rattle.gr_view.specs.Decisions.{looked_at, unready, verdict_on, at_barrier}
 use Rattle.gr_cluster.specs.Tables.{Cluster, is_up}
 use Rattle.gr_cluster.specs.Step.{down_among, after_verdict, barred, step}
 use Rattle.gr_cluster.specs.Runs.{is_commit}
@@ -20,17 +19,8 @@ use Rattle.gr_lists.proofs.Tests.{by_test, by_option}
 use Rattle.gr_lists.proofs.Any.{has-filter}
 use Rattle.gr_law_epoch.specs.Law.{IsLater, IsNewEpoch}
 use Rattle.gr_law_epoch.proofs.Agrees.{opened-later}
-use Rattle.gr_law_epoch.proofs.Places.{IsPlaces-union, IsPlaces-filter, has-without, live-not_dead}
+use Rattle.gr_law_epoch.proofs.Places.{IsPlaces-union, IsPlaces-filter, has-without, down-among, live-not_dead}
 use Rattle.gr_law_epoch.proofs.Returns.{returned, Returns, returned-opens}
-
-not-true : (b : Bool) → not b ≡ true → b ≡ false
-not-true true e = absurd (let bad : false ≡ true = e in cc)
-not-true false e = refl
-
--- those among some places whose machines are down
-pub down-among : {V A : Type 0} (c : Cluster V A) (ps : List ℕ) (p : ℕ) → has (down_among c ps) p ≡ true → (has ps p ≡ true) × (is_up c p ≡ false)
-down-among c ps p m =
-    let both = and_parts (has ps p) (not (is_up c p)) (sym (has-filter (λ q. not (is_up c q)) ps p) ∙ m) in (both.0, not-true (is_up c p) both.1)
 
 module _ {V A : Type 0} (P : Program V A) (t : Truth V) (c : Cluster V A) (AG : Agree P t c) where
   abbrev crashed : List ℕ
@@ -43,6 +33,24 @@ module _ {V A : Type 0} (P : Program V A) (t : Truth V) (c : Cluster V A) (AG : 
 
   crashed-places : IsPlaces crashed
   crashed-places = IsPlaces-filter (λ p. not (is_up c p)) (looked_at c.coordinator) looked-places
+
+  -- every live place is looked at
+  live-looked : (p : ℕ) → has c.coordinator.live p ≡ true → has (looked_at c.coordinator) p ≡ true
+  live-looked p l = by_test (is_failed c.coordinator.mode)
+      (λ f. rw f l)
+      (λ f. rw f (has-union p c.coordinator.live c.coordinator.reborn ∙ or_left _ _ l))
+
+  -- those of the live places stay live that are up
+  live-up : (p : ℕ) → has (without c.coordinator.live crashed) p ≡ (has c.coordinator.live p && is_up c p)
+  live-up p = has-without c.coordinator.live crashed p
+      ∙ (ap (λ b. has c.coordinator.live p && not b) (has-filter (λ q. not (is_up c q)) (looked_at c.coordinator) p)
+      ∙ up-ones (has c.coordinator.live p) (has (looked_at c.coordinator) p) (is_up c p) (live-looked p))
+    where
+      up-ones : (l k u : Bool) → (l ≡ true → k ≡ true) → (l && not (k && not u)) ≡ (l && u)
+      up-ones false k u all = refl
+      up-ones true true true all = refl
+      up-ones true true false all = refl
+      up-ones true false u all = absurd (let bad : false ≡ true = all refl in cc)
 
   -- one that was not live was reborn, and so dead
   looked-live_or_dead : (p : ℕ) → has (looked_at c.coordinator) p ≡ true → has c.coordinator.live p ≡ false → has c.coordinator.dead p ≡ true
@@ -83,7 +91,7 @@ module _ {V A : Type 0} (P : Program V A) (t : Truth V) (c : Cluster V A) (AG : 
 
   -- a decision that commits nothing and opens a new epoch
   abbrev Decides : Cluster V A × Outcome V A → Type 0
-  Decides r = is_commit r.1 ≡ false → IsNewEpoch c r.0 → IsLater P t c r.0
+  Decides r = is_commit r.1 ≡ false → IsNewEpoch c r.0 → ((p : ℕ) → has r.0.coordinator.live p ≡ (has c.coordinator.live p && is_up c p)) × IsLater P t c r.0
 
   verdict-later : c.coordinator.mode ≢ mode.Done → (ps : List ℕ) → crashed ≡ ps → Decides (after_verdict c ps (verdict_on c.coordinator ps).0 (verdict_on c.coordinator ps).1)
   verdict-later goes_on [] is = by_test (is_failed c.coordinator.mode)
@@ -91,10 +99,12 @@ module _ {V A : Type 0} (P : Program V A) (t : Truth V) (c : Cluster V A) (AG : 
       (λ f. rw f (by_option (unready c.coordinator)
       (λ u. rw u (λ n new. absurd (let bad : true ≡ false = n in cc)))
       (λ p u. rw u (λ n new. absurd (new refl)))))
-  verdict-later goes_on (p ∷ ps) is = λ n new.
-      opened-later P t c AG (returned P t c AG (p ∷ ps) (without c.coordinator.live (p ∷ ps)) (union c.coordinator.dead (p ∷ ps)))
-      (returned-opens P t c AG (p ∷ ps) (without c.coordinator.live (p ∷ ps)) (union c.coordinator.dead (p ∷ ps))
-      (subst (λ qs. Returns P t c AG qs (without c.coordinator.live qs) (union c.coordinator.dead qs)) is crashed-return) goes_on)
+  verdict-later goes_on (p ∷ ps) is = λ n new. (
+    λ q. ap (λ qs. has (without c.coordinator.live qs) q) (sym is) ∙ live-up q,
+    opened-later P t c AG (returned P t c AG (p ∷ ps) (without c.coordinator.live (p ∷ ps)) (union c.coordinator.dead (p ∷ ps)))
+        (returned-opens P t c AG (p ∷ ps) (without c.coordinator.live (p ∷ ps)) (union c.coordinator.dead (p ∷ ps))
+        (subst (λ qs. Returns P t c AG qs (without c.coordinator.live qs) (union c.coordinator.dead qs)) is crashed-return) goes_on),
+  )
 
   barred-later : is_over c.coordinator.mode ≡ false → Decides (barred c)
   unfolding barred at_barrier

@@ -1,8 +1,6 @@
 -- A discard, in each mode.
-use Rattle.std.proofs.Common.{◌≡◌, ◌≢◌, ℕ, List, Bool, true, false, not, ◌&&◌, refl, sym, ap, ◌∙◌, inl}
+use Rattle.std.proofs.Common.{◌≡◌, ℕ, List, true, false, refl, ap, inl}
 use Rattle.std.specs.Prelude.{if◌then◌else◌}
-use Rattle.std.proofs.lemmas.Bool.{and_parts}
-use Rattle.gr_base.specs.Rising.{has}
 use Rattle.gr_program.specs.Program.{Program}
 use Rattle.gr_batch.specs.declared.outcome.Outcome.{Outcome}
 use Rattle.gr_sched.specs.declared.event.Event.TheVariants as event
@@ -10,7 +8,7 @@ use Rattle.gr_view.specs.declared.coordinator.Mode.{Mode}
 use Rattle.gr_view.specs.declared.coordinator.Mode.TheVariants as mode
 use Rattle.gr_view.specs.Modes.{is_over, is_open, is_recovery}
 use Rattle.gr_view.specs.Decisions.{parties, going_back, at_discard}
-use Rattle.gr_cluster.specs.Tables.{Cluster, is_up}
+use Rattle.gr_cluster.specs.Tables.{Cluster}
 use Rattle.gr_cluster.specs.Step.{down_among, without_hosts, with_coordinator, discarded_or_idle, discarded, step}
 use Rattle.gr_agree.specs.Truth.{Truth}
 use Rattle.gr_agree.specs.Places.{may_have_dead}
@@ -20,7 +18,7 @@ use Rattle.gr_law_network.specs.Law.{IsKept}
 use Rattle.gr_law_epoch.specs.Law.{IsLater, IsNewEpoch}
 use Rattle.gr_law_epoch.proofs.Agrees.{opened-later}
 use Rattle.gr_law_epoch.proofs.Anew.{anew-kept, open-not_done}
-use Rattle.gr_law_epoch.proofs.Crashes.{down-among}
+use Rattle.gr_law_epoch.proofs.Places.{down-among}
 use Rattle.gr_law_epoch.proofs.Returns.{returned, Returns, returned-opens}
 
 module _ {V A : Type 0} (P : Program V A) (t : Truth V) (c : Cluster V A) (AG : Agree P t c) where
@@ -59,10 +57,17 @@ module _ {V A : Type 0} (P : Program V A) (t : Truth V) (c : Cluster V A) (AG : 
     crashed = λ p m. (down-among c (parties c.coordinator) p m).1;
   }
 
-  recovery-later : (m : Mode) → c.coordinator.mode ≡ m → is_recovery m ≡ true → IsLater P t c (discarded_in m).0
+  -- the live places stay, and what is committed there
+  abbrev Keeps : Cluster V A → Type 0
+  Keeps r = (r.coordinator.live ≡ c.coordinator.live) × IsLater P t c r
+
+  recovery-later : (m : Mode) → c.coordinator.mode ≡ m → is_recovery m ≡ true → Keeps (discarded_in m).0
   unfolding at_discard
-  recovery-later mode.Recovering e y = opened-later P t c AG (returned P t c AG crashed c.coordinator.live c.coordinator.dead)
-      (returned-opens P t c AG crashed c.coordinator.live c.coordinator.dead nobody-dies (open-not_done c.coordinator.mode (ap is_open e)))
+  recovery-later mode.Recovering e y = (
+    refl,
+    opened-later P t c AG (returned P t c AG crashed c.coordinator.live c.coordinator.dead)
+        (returned-opens P t c AG crashed c.coordinator.live c.coordinator.dead nobody-dies (open-not_done c.coordinator.mode (ap is_open e))),
+  )
   recovery-later mode.Running e y = absurd (let bad : false ≡ true = y in cc)
   recovery-later mode.Repairing e y = absurd (let bad : false ≡ true = y in cc)
   recovery-later mode.Failed e y = absurd (let bad : false ≡ true = y in cc)
@@ -77,6 +82,6 @@ module _ {V A : Type 0} (P : Program V A) (t : Truth V) (c : Cluster V A) (AG : 
   in-recovery mode.Done y = absurd (let bad : false ≡ true = y in cc)
   in-recovery mode.Lost y = absurd (let bad : false ≡ true = y in cc)
 
-  pub discard-later : is_recovery c.coordinator.mode ≡ true → IsLater P t c (step P c event.Discard).0
+  pub discard-later : is_recovery c.coordinator.mode ≡ true → Keeps (step P c event.Discard).0
   unfolding step discarded
   discard-later y = let o = in-recovery c.coordinator.mode y in rw o (recovery-later c.coordinator.mode refl y)

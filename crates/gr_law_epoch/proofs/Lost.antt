@@ -1,12 +1,11 @@
 -- Where no vertex is lost, some holder of each vertex is not dead.
-use Rattle.std.proofs.Common.{◌≡◌, ℕ, ◌<◌, List, [], ◌∷◌, Bool, true, false, not, ◌==◌, ◌&&◌, ◌||◌, nat_lt, length, refl, sym, ap, ◌∙◌, subst, arith, map, flat_map, eq-eqb, lt-ltb, eqb-true}
-use Rattle.std.specs.Prelude.{IsTrue}
+use Rattle.std.proofs.Common.{◌≡◌, ℕ, List, [], ◌∷◌, Bool, true, false, ◌==◌, ◌&&◌, ◌||◌, nat_lt, length, refl, sym, ap, ◌∙◌, arith, map, flat_map, lt-ltb}
 use Rattle.std.specs.List.{filter, list_any, fold}
-use Rattle.std.proofs.lemmas.Bool.{both_ways, or_left}
+use Rattle.std.proofs.lemmas.Bool.{both_ways}
 use Rattle.gr_base.specs.Rising.{has, includes}
 use Rattle.gr_base.specs.Places.{with_place}
 use Rattle.gr_program.specs.Program.{Program}
-use Rattle.gr_log.specs.Directory.{Entry, directory_in, rising}
+use Rattle.gr_log.specs.Directory.{directory_in}
 use Rattle.gr_rules.specs.Lost.{lost_of}
 use Rattle.gr_cluster.specs.Tables.{Cluster, log}
 use Rattle.gr_cluster.specs.Step.{lost_list}

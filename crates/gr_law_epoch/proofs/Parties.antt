@@ -1,17 +1,17 @@
 -- The hosts in the next epoch: those that stay have yet to adopt it, and the reborn ones begin it.
-use Rattle.std.proofs.Common.{◌≡◌, ℕ, ◌+◌, true, false, cond, ◌==◌, ◌&&◌, refl, sym, ap, ◌∙◌, subst, arith, Some, ne_eqb, inl, inr, ⊎_elim}
+use Rattle.std.proofs.Common.{◌≡◌, ℕ, ◌+◌, true, false, ◌==◌, ◌&&◌, refl, sym, ap, ◌∙◌, subst, arith, Some, ne_eqb, inl, inr, ⊎_elim}
 use Rattle.std.specs.Prelude.{IsTrue, map, if◌then◌else◌}
 use Rattle.std.proofs.lemmas.Bool.{and_left, and_right, both_ways}
 use Rattle.gr_base.specs.Rising.{has}
 use Rattle.gr_program.specs.Program.{Program}
-use Rattle.gr_log.specs.Log.{Log, cut_log}
+use Rattle.gr_log.specs.Log.{cut_log}
 use Rattle.gr_batch.specs.declared.stage.Stage.TheVariants as stage
-use Rattle.gr_view.specs.Modes.{is_failed, is_open, is_rebuild}
+use Rattle.gr_view.specs.Modes.{is_rebuild}
 use Rattle.gr_rules.specs.Rows.{blank_rows, blank_copy}
 use Rattle.gr_cluster.specs.Step.{reborn_host}
 use Rattle.gr_cluster.specs.Stages.{stages_of, has_stage}
 use Rattle.gr_cluster.specs.Tables.{Host, Cluster, host, log, view_of, wanted_in}
-use Rattle.gr_agree.specs.Truth.{Truth, rows_at, arcs_at, entries_at}
+use Rattle.gr_agree.specs.Truth.{Truth, rows_at, entries_at}
 use Rattle.gr_agree.specs.Hosts.{HostOpen, AtEpoch, RebornHolds, pending_rows, pending_arcs}
 use Rattle.gr_agree.specs.Agree.{Agree}
 use Rattle.gr_law_network.proofs.Kept.{up-party, epoch-le}

@@ -1,18 +1,18 @@
--- Sets of places: unions, differences, and in which of the sets of a cluster a place stands.
-use Rattle.std.proofs.Common.{◌≡◌, ◌<◌, ◌≤◌, ℕ, ◌+◌, List, [], ◌∷◌, Bool, true, false, cond, not, ◌==◌, ◌&&◌, ◌||◌, length, refl, sym, ap, ◌∙◌, subst, arith, nat_lt, get_or, eqb-true, eq-eqb, ltb-true}
-use Rattle.std.specs.Prelude.{IsTrue}
+-- Sets of places: unions, differences, those that are down, and in which of the sets of a cluster a place stands.
+use Rattle.std.proofs.Common.{◌≡◌, ◌<◌, ◌≤◌, ℕ, List, [], ◌∷◌, Bool, true, false, cond, not, ◌==◌, ◌&&◌, length, refl, sym, ap, ◌∙◌, subst, arith, nat_lt, get_or, eqb-true, eq-eqb, ltb-true}
 use Rattle.std.specs.List.{All, list_all, filter}
 use Rattle.std.proofs.lemmas.List.Elements.{All-from_get_or, All-filter}
 use Rattle.std.proofs.lemmas.List.Filters.{length-filter_both}
 use Rattle.std.proofs.lemmas.List.Folds.{list_any_at}
-use Rattle.std.proofs.lemmas.Bool.{and_parts}
+use Rattle.std.proofs.lemmas.Bool.{and_parts, not-true}
 use Rattle.gr_base.specs.Rising.{has, union, without, includes}
 use Rattle.gr_base.specs.Places.{IsPlaces}
 use Rattle.gr_base.proofs.PlaceTests.{has-contains}
 use Rattle.gr_base.proofs.Rising.{filter-rises}
 use Rattle.gr_base.proofs.Union.{has-union, union-rises}
 use Rattle.gr_view.specs.declared.coordinator.Coordinator.{Coordinator}
-use Rattle.gr_cluster.specs.Tables.{Cluster}
+use Rattle.gr_cluster.specs.Tables.{Cluster, is_up}
+use Rattle.gr_cluster.specs.Step.{down_among}
 use Rattle.gr_agree.specs.Places.{sets_with}
 use Rattle.gr_lists.proofs.Tests.{by_test}
 use Rattle.gr_lists.proofs.Any.{has-filter}
@@ -50,6 +50,11 @@ has-included xs (y ∷ ys) v all m =
     let a = and_parts (has xs y) (list_all (has xs) ys) all in by_test (y == v)
     (λ e. ap (has xs) (sym (eqb-true y v e)) ∙ a.0)
     (λ e. let m' : has ys v ≡ true = rw e at m in has-included xs ys v a.1 m')
+
+-- those among some places whose machines are down
+pub down-among : {V A : Type 0} (c : Cluster V A) (ps : List ℕ) (p : ℕ) → has (down_among c ps) p ≡ true → (has ps p ≡ true) × (is_up c p ≡ false)
+down-among c ps p m =
+    let both = and_parts (has ps p) (not (is_up c p)) (sym (has-filter (λ q. not (is_up c q)) ps p) ∙ m) in (both.0, not-true (is_up c p) both.1)
 
 module _ (co : Coordinator) (places p : ℕ) (one : sets_with co p ≡ cond (nat_lt p places) 1 0) where
   at-most-one : sets_with co p ≤ 1

@@ -1,6 +1,6 @@
 -- A recovery opens, with a spare for each named place.
-use Rattle.std.proofs.Common.{◌≡◌, ◌≢◌, ◌≤◌, ◌<◌, ℕ, ◌+◌, ◌-◌, List, [], Bool, true, false, not, ◌&&◌, nat_lt, refl, sym, ap, ◌∙◌, subst, arith, Option, Some, None, length, leb-true, inl, inr, ◌⊎◌}
-use Rattle.std.specs.Prelude.{IsTrue, is_some, nat_le, if◌then◌else◌}
+use Rattle.std.proofs.Common.{◌≡◌, ◌≤◌, ◌<◌, ℕ, ◌+◌, ◌-◌, List, [], Bool, true, false, ◌&&◌, nat_lt, refl, sym, ap, ◌∙◌, arith, Some, None, length, leb-true, inl, inr}
+use Rattle.std.specs.Prelude.{is_some, nat_le, if◌then◌else◌}
 use Rattle.std.proofs.lemmas.List.Elements.{All-nil}
 use Rattle.std.proofs.lemmas.Bool.{and_parts, both_ways}
 use Rattle.gr_base.specs.Rising.{has, includes}
@@ -12,13 +12,13 @@ use Rattle.gr_sched.specs.declared.event.Event.TheVariants as event
 use Rattle.gr_view.specs.declared.coordinator.Mode.TheVariants as mode
 use Rattle.gr_view.specs.Modes.{is_over, is_failed}
 use Rattle.gr_view.specs.Decisions.{may_recover, at_recovery}
-use Rattle.gr_cluster.specs.Tables.{Host, Cluster, changed_at, host, is_up, log}
+use Rattle.gr_cluster.specs.Tables.{Host, Cluster, changed_at, host, log}
 use Rattle.gr_cluster.specs.Step.{lost_list, reborn_host, recovered, step}
 use Rattle.gr_agree.specs.Truth.{Truth}
 use Rattle.gr_agree.specs.Agree.{Agree}
 use Rattle.gr_lists.proofs.Tests.{by_test}
 use Rattle.gr_law_epoch.specs.Law.{IsLater, IsNewEpoch}
-use Rattle.gr_law_epoch.proofs.Opened.{Change, opened, IsStaying, IsReborn, Opens}
+use Rattle.gr_law_epoch.proofs.Opened.{Change, opened, IsReborn, Opens}
 use Rattle.gr_law_epoch.proofs.Agrees.{opened-later}
 use Rattle.gr_law_epoch.proofs.Tables.{length-changed_at, within-changed_at, get_or-unchanged, get_or-changed_at}
 use Rattle.gr_law_epoch.proofs.Places.{has-included, live-not_dead, dead-not_retired, dead-within}
@@ -124,7 +124,11 @@ module _ {V A : Type 0} (P : Program V A) (t : Truth V) (c : Cluster V A) (AG : 
           (λ n. inl (record { was = sym (keeps-host p n) ∙ at; not_reborn = n }));
     }
 
-  recovered-later : IsPlaces ps → IsNewEpoch c (recovered c ps).0 → IsLater P t c (recovered c ps).0
+  -- where the epoch is new, the live places stay, and what is committed there
+  abbrev Keeps : Cluster V A → Type 0
+  Keeps r = IsNewEpoch c r → (r.coordinator.live ≡ c.coordinator.live) × IsLater P t c r
+
+  recovered-later : IsPlaces ps → Keeps (recovered c ps).0
   unfolding recovered at_recovery
   recovered-later are = by_test (may_recover c.coordinator ps)
       (λ may. by_test (nat_lt 0 (length (lost_list c)))
@@ -132,10 +136,10 @@ module _ {V A : Type 0} (P : Program V A) (t : Truth V) (c : Cluster V A) (AG : 
       (λ lost.
       let both = and_parts (is_failed c.coordinator.mode) (includes c.coordinator.dead ps && nat_le (length ps) c.coordinator.spares) may in
       let more = and_parts (includes c.coordinator.dead ps) (nat_le (length ps) c.coordinator.spares) both.1 in
-      rw (may, lost) (λ new. opened-later P t c AG reborn (reborn-opens are both.0 more.0 (leb-true (length ps) c.coordinator.spares more.1) lost))))
+      rw (may, lost) (λ new. (refl, opened-later P t c AG reborn (reborn-opens are both.0 more.0 (leb-true (length ps) c.coordinator.spares more.1) lost)))))
       (λ may. rw may (λ new. absurd (new refl)))
 
-  pub recovery-later : IsPlaces ps → IsNewEpoch c (step P c (event.Recover ps)).0 → IsLater P t c (step P c (event.Recover ps)).0
+  pub recovery-later : IsPlaces ps → Keeps (step P c (event.Recover ps)).0
   unfolding step
   recovery-later are = by_test (is_over c.coordinator.mode)
       (λ o. rw o (λ new. absurd (new refl)))

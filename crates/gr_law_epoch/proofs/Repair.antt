@@ -1,5 +1,5 @@
 -- A repair opens in the place of a round.
-use Rattle.std.proofs.Common.{◌≡◌, false, refl, sym, ap, ◌∙◌}
+use Rattle.std.proofs.Common.{◌≡◌, refl, ap}
 use Rattle.gr_program.specs.Program.{Program}
 use Rattle.gr_sched.specs.declared.event.Event.TheVariants as event
 use Rattle.gr_view.specs.declared.coordinator.Mode.{Mode}

@@ -1,6 +1,6 @@
 -- After a failure the hosts of reborn places go back to the spares, and no place is reborn.
-use Rattle.std.proofs.Common.{◌≡◌, ◌≢◌, ◌≤◌, ◌<◌, ℕ, ◌+◌, List, [], Bool, true, false, cond, not, ◌&&◌, refl, sym, ap, ◌∙◌, subst, arith, Option, Some, None, length, inl, ◌⊎◌, ⊎_elim}
-use Rattle.std.specs.Prelude.{IsTrue, is_some, if◌then◌else◌}
+use Rattle.std.proofs.Common.{◌≡◌, ◌≢◌, ◌<◌, ℕ, ◌+◌, List, [], Bool, true, false, cond, not, ◌&&◌, refl, sym, ap, ◌∙◌, arith, Some, None, length, inl, ◌⊎◌, ⊎_elim}
+use Rattle.std.specs.Prelude.{is_some, if◌then◌else◌}
 use Rattle.std.proofs.lemmas.List.Elements.{All-nil}
 use Rattle.std.proofs.lemmas.Bool.{and_left, both_ways}
 use Rattle.gr_base.specs.Rising.{has}

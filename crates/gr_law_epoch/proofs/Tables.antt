@@ -1,5 +1,5 @@
 -- The entries of a table that changes at some places.
-use Rattle.std.proofs.Common.{◌≡◌, ◌<◌, ◌≤◌, ℕ, ◌+◌, List, Bool, true, false, length, refl, sym, ap, ◌∙◌, get_or, zero-add, ⊎_elim}
+use Rattle.std.proofs.Common.{◌≡◌, ◌<◌, ◌≤◌, ℕ, List, false, length, sym, ap, ◌∙◌, get_or, zero-add, ⊎_elim}
 use Rattle.std.specs.Prelude.{if◌then◌else◌}
 use Rattle.std.specs.List.{enumerate_from}
 use Rattle.std.proofs.lemmas.List.{length-map, get_or-map, get_or_past}
@@ -7,7 +7,6 @@ use Rattle.std.proofs.lemmas.List.FromFn.{length-enumerate_from, get_or-enumerat
 use Rattle.std.proofs.lemmas.Bool.{cases_lt}
 use Rattle.gr_base.specs.Rising.{has}
 use Rattle.gr_lists.proofs.Choices.{if-same}
-use Rattle.gr_lists.proofs.Tests.{by_test}
 use Rattle.gr_cluster.specs.Tables.{changed_at}
 
 module _ {X : Type 0} (ps : List ℕ) (f : ℕ → X → X) (xs : List X) where

@@ -1,5 +1,5 @@
 -- Every event that opens a new epoch without a commit is a failure, a recovery, a repair or a discard.
-use Rattle.std.proofs.Common.{◌≡◌, ◌≢◌, ℕ, Bool, true, false, refl, sym, ap, ◌∙◌, Option, Some, None, slice_get, nat_lt}
+use Rattle.std.proofs.Common.{◌≡◌, ℕ, false, refl, Option, Some, None, slice_get, nat_lt}
 use Rattle.std.specs.Prelude.{is_none}
 use Rattle.gr_program.specs.Program.{Program}
 use Rattle.gr_batch.specs.declared.batch.Batch.{Batch}
@@ -81,9 +81,9 @@ module _ {V A : Type 0} (P : Program V A) (t : Truth V) (c : Cluster V A) (AG : 
   new_epoch-later (event.Deliver i) names none new = absurd (new (step-stays P c (event.Deliver i) (delivered-stays P c i (slice_get c.flight i))))
   new_epoch-later (event.Discarded i) names none new = absurd (new (step-stays P c (event.Discarded i) (dropped-stays P c i (slice_get c.flight i))))
   new_epoch-later (event.Crash p n) names none new = absurd (new (step-stays P c (event.Crash p n) (crashed-stays P c p n (host c p))))
-  new_epoch-later event.Barrier names none new = barrier-later P t c AG none new
-  new_epoch-later (event.Recover ps) names none new = recovery-later P t c AG ps names new
+  new_epoch-later event.Barrier names none new = (barrier-later P t c AG none new).1
+  new_epoch-later (event.Recover ps) names none new = (recovery-later P t c AG ps names new).1
   new_epoch-later event.Repair names none new = kept-later _ (repair-kept P t c AG new)
   new_epoch-later event.Discard names none new = by_test (is_recovery c.coordinator.mode)
-      (λ y. discard-later P t c AG y)
+      (λ y. (discard-later P t c AG y).1)
       (λ other. kept-later _ (discard-kept P t c AG other new))

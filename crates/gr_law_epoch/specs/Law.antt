@@ -1,10 +1,11 @@
 -- What each event keeps that opens a new epoch without a commit: cases of the law of a new epoch.
-use Rattle.std.specs.Prelude.{◌≡◌, ◌≢◌, true, false, List, ℕ}
+use Rattle.std.specs.Prelude.{◌≡◌, ◌≢◌, true, false, ◌&&◌, List, ℕ}
+use Rattle.gr_base.specs.Rising.{has}
 use Rattle.gr_base.specs.Places.{IsPlaces}
 use Rattle.gr_program.specs.Program.{Program}
 use Rattle.gr_sched.specs.declared.event.Event.TheVariants as event
 use Rattle.gr_view.specs.Modes.{is_recovery}
-use Rattle.gr_cluster.specs.Tables.{Cluster}
+use Rattle.gr_cluster.specs.Tables.{Cluster, is_up}
 use Rattle.gr_cluster.specs.Step.{step}
 use Rattle.gr_cluster.specs.Runs.{is_commit}
 use Rattle.gr_agree.specs.Truth.{Truth}
@@ -31,19 +32,20 @@ DiscardKeeps V A =
     (P : Program V A) (t : Truth V) (c : Cluster V A) → Agree P t c → is_recovery c.coordinator.mode ≡ false
     → IsNewEpoch c (step P c event.Discard).0 → IsKept P t c (step P c event.Discard).0
 
--- a discard of a recovery, whose hosts of reborn places go back to the spares
+-- a discard of a recovery, whose hosts of reborn places go back to the spares, leaves the live places as they are
 abbrev pub DiscardOfRecoveryKeeps : (V A : Type 0) → Type 0
 DiscardOfRecoveryKeeps V A =
-    (P : Program V A) (t : Truth V) (c : Cluster V A) → Agree P t c → is_recovery c.coordinator.mode ≡ true → IsLater P t c (step P c event.Discard).0
+    (P : Program V A) (t : Truth V) (c : Cluster V A) → Agree P t c → is_recovery c.coordinator.mode ≡ true
+    → let d = (step P c event.Discard).0 in (d.coordinator.live ≡ c.coordinator.live) × IsLater P t c d
 
--- a barrier that finds crashed places
+-- after a barrier that finds crashed places those of the live places are live that are up
 abbrev pub FailureKeeps : (V A : Type 0) → Type 0
 FailureKeeps V A =
-    (P : Program V A) (t : Truth V) (c : Cluster V A) → Agree P t c → is_commit (step P c event.Barrier).1 ≡ false
-    → IsNewEpoch c (step P c event.Barrier).0 → IsLater P t c (step P c event.Barrier).0
+    (P : Program V A) (t : Truth V) (c : Cluster V A) → Agree P t c → is_commit (step P c event.Barrier).1 ≡ false → IsNewEpoch c (step P c event.Barrier).0
+    → ((p : ℕ) → has (step P c event.Barrier).0.coordinator.live p ≡ has c.coordinator.live p && is_up c p) × IsLater P t c (step P c event.Barrier).0
 
--- a recovery that opens
+-- a recovery that opens leaves the live places as they are
 abbrev pub RecoveryKeeps : (V A : Type 0) → Type 0
 RecoveryKeeps V A =
-    (P : Program V A) (t : Truth V) (c : Cluster V A) (ps : List ℕ) → IsPlaces ps → Agree P t c
-    → IsNewEpoch c (step P c (event.Recover ps)).0 → IsLater P t c (step P c (event.Recover ps)).0
+    (P : Program V A) (t : Truth V) (c : Cluster V A) (ps : List ℕ) → IsPlaces ps → Agree P t c → IsNewEpoch c (step P c (event.Recover ps)).0
+    → let d = (step P c (event.Recover ps)).0 in (d.coordinator.live ≡ c.coordinator.live) × IsLater P t c d

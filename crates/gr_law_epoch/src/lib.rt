@@ -9,9 +9,9 @@ pub fn a_repair_keeps<V, A>()
     ensures { RepairKeeps V A }
 {}
 
-/// After a barrier that finds crashed places nothing that is committed has changed where a place is still live, nor in
-/// any committed log, and the cluster agrees with the same committed state: the crashed places are dead, and the hosts
-/// of reborn places are back among the spares.
+/// After a barrier that finds crashed places those of the live places are live that are up. Nothing that is committed
+/// has changed there, nor in any log, and the cluster agrees with the same committed state: the crashed places are dead,
+/// and the hosts of reborn places are back among the spares.
 pub fn a_failure_keeps<V, A>()
     ensures { FailureKeeps V A }
 {}
@@ -22,15 +22,15 @@ pub fn a_discard_keeps<V, A>()
     ensures { DiscardKeeps V A }
 {}
 
-/// A discard of a recovery changes nothing that is committed at a live place, nor in any log, and the cluster agrees
-/// with the same committed state: the hosts of reborn places are back among the spares.
+/// A discard of a recovery leaves the live places as they are, and changes nothing that is committed there, nor in any
+/// log. The cluster agrees with the same committed state: the hosts of reborn places are back among the spares.
 pub fn a_discard_of_a_recovery_keeps<V, A>()
     ensures { DiscardOfRecoveryKeeps V A }
 {}
 
-/// A recovery that opens changes nothing that is committed at a live place, nor in any log, and the cluster agrees with
-/// the same committed state: each reborn place begins the epoch with what its committed log says, without values, and
-/// some holder of each vertex is not dead.
+/// A recovery that opens leaves the live places as they are, and changes nothing that is committed there, nor in any
+/// log. The cluster agrees with the same committed state: each reborn place begins the epoch with what its committed log
+/// says, without values, and some holder of each vertex is not dead.
 pub fn a_recovery_keeps<V, A>()
     ensures { RecoveryKeeps V A }
 {}

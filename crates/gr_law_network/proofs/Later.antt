@@ -1,8 +1,9 @@
--- An epoch later: the batches of before bind nobody, and none of the new epoch stands anywhere.
-use Rattle.std.proofs.Common.{◌≡◌, ℕ, ◌+◌, ◌≤◌, List, [], ◌∷◌, false, cond, ◌==◌, refl, ap, arith, Option, ne_eqb}
+-- An epoch later: the batches of before bind nobody, none of the new epoch stands anywhere, and nobody has reported.
+use Rattle.std.proofs.Common.{◌≡◌, ℕ, ◌+◌, ◌≤◌, List, [], ◌∷◌, Bool, false, cond, ◌==◌, ◌&&◌, refl, ap, arith, Option, ne_eqb}
 use Rattle.std.specs.Prelude.{count_by}
 use Rattle.std.specs.List.{AllByRecursion as Each}
 use Rattle.std.proofs.lemmas.Bool.{and_left, and_right}
+use Rattle.gr_base.specs.Rising.{has}
 use Rattle.gr_program.specs.Program.{Program}
 use Rattle.gr_copies.specs.declared.view.RebuildView.{RebuildView}
 use Rattle.gr_batch.specs.declared.batch.Batch.{Batch}
@@ -14,6 +15,13 @@ use Rattle.gr_agree.specs.Truth.{Truth}
 use Rattle.gr_agree.specs.Network.{BatchHolds, NetworkHolds, standing}
 use Rattle.gr_lists.proofs.Each.{Each-weaker}
 use Rattle.gr_lists.proofs.Counts.{count_by-cons}
+
+-- where nobody has reported, no vertex counts by its master's report
+pub none-reported : (f : ℕ → Bool) (master : ℕ → ℕ) (vs : List ℕ) → count_by (λ v. f v && has [] (master v)) vs ≡ 0
+none-reported f master [] = refl
+none-reported f master (v ∷ vs) =
+    let ih = none-reported f master vs in let more = count_by-cons (λ v. f v && has [] (master v)) v vs in
+    let one : cond {A = ℕ} (f v && false) 1 0 ≡ 0 = ap (λ b. cond b 1 0) (and_right (f v) false refl) in omega (arith, ih, more, one)
 
 module _ {V A : Type 0} where
   -- no batch has an epoch above the present one
