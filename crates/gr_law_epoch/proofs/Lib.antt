@@ -12,3 +12,4 @@ mod Discard
 mod Lost
 mod Recovery
 mod Whole
+mod Unopened

@@ -1,8 +1,9 @@
--- What each event keeps that opens a new epoch without a commit: cases of the law of a new epoch.
-use Rattle.std.specs.Prelude.{◌≡◌, ◌≢◌, true, false, ◌&&◌, List, ℕ}
+-- What each event keeps that opens a new epoch without a commit, and what these events keep where they open none.
+use Rattle.std.specs.Prelude.{◌≡◌, ◌≢◌, Bool, true, false, ◌&&◌, IsTrue, List, ℕ}
 use Rattle.gr_base.specs.Rising.{has}
 use Rattle.gr_base.specs.Places.{IsPlaces}
 use Rattle.gr_program.specs.Program.{Program}
+use Rattle.gr_sched.specs.declared.event.Event.{Event}
 use Rattle.gr_sched.specs.declared.event.Event.TheVariants as event
 use Rattle.gr_view.specs.Modes.{is_recovery}
 use Rattle.gr_cluster.specs.Tables.{Cluster, is_up}
@@ -35,7 +36,7 @@ DiscardKeeps V A =
 -- a discard of a recovery, whose hosts of reborn places go back to the spares, leaves the live places as they are
 abbrev pub DiscardOfRecoveryKeeps : (V A : Type 0) → Type 0
 DiscardOfRecoveryKeeps V A =
-    (P : Program V A) (t : Truth V) (c : Cluster V A) → Agree P t c → is_recovery c.coordinator.mode ≡ true
+    (P : Program V A) (t : Truth V) (c : Cluster V A) → Agree P t c → IsTrue (is_recovery c.coordinator.mode)
     → let d = (step P c event.Discard).0 in (d.coordinator.live ≡ c.coordinator.live) × IsLater P t c d
 
 -- after a barrier that finds crashed places those of the live places are live that are up
@@ -49,3 +50,16 @@ abbrev pub RecoveryKeeps : (V A : Type 0) → Type 0
 RecoveryKeeps V A =
     (P : Program V A) (t : Truth V) (c : Cluster V A) (ps : List ℕ) → IsPlaces ps → Agree P t c → IsNewEpoch c (step P c (event.Recover ps)).0
     → let d = (step P c (event.Recover ps)).0 in (d.coordinator.live ≡ c.coordinator.live) × IsLater P t c d
+
+-- the events that ask for a new epoch
+abbrev pub is_order : Event → Bool
+is_order (event.Recover ps) = true
+is_order event.Repair = true
+is_order event.Discard = true
+is_order _ = false
+
+-- where they open none, a recovery that finds a vertex lost among them, nothing that is committed changes
+abbrev pub UnopenedKeeps : (V A : Type 0) → Type 0
+UnopenedKeeps V A =
+    (P : Program V A) (t : Truth V) (c : Cluster V A) (e : Event) → Agree P t c → IsTrue (is_order e)
+    → (step P c e).0.coordinator.epoch ≡ c.coordinator.epoch → IsKept P t c (step P c e).0

@@ -1,8 +1,8 @@
-//! The laws of a new epoch that opens without a commit.
+//! The laws of a new epoch that opens without a commit, and of the events that ask for one and open none.
 #![tactic(auto)]
 
 ghost use Rattle.gr_agree.specs.Laws.{KeepsInANewEpoch};
-ghost use Rattle.gr_law_epoch.specs.Law.{DiscardKeeps, DiscardOfRecoveryKeeps, FailureKeeps, RecoveryKeeps, RepairKeeps};
+ghost use Rattle.gr_law_epoch.specs.Law.{DiscardKeeps, DiscardOfRecoveryKeeps, FailureKeeps, RecoveryKeeps, RepairKeeps, UnopenedKeeps};
 
 /// A repair that opens changes nothing that is committed, and the cluster agrees with the same committed state.
 pub fn a_repair_keeps<V, A>()
@@ -40,4 +40,10 @@ pub fn a_recovery_keeps<V, A>()
 /// committed state.
 pub fn a_new_epoch_keeps<V, A>()
     ensures { KeepsInANewEpoch V A }
+{}
+
+/// A recovery, a repair and a discard that open no epoch change nothing that is committed, and the cluster agrees with
+/// the same committed state. So it is where a recovery finds a vertex lost, which changes the mode alone.
+pub fn what_opens_nothing_keeps<V, A>()
+    ensures { UnopenedKeeps V A }
 {}
