@@ -1,9 +1,9 @@
 -- The commit of a round.
-use Rattle.std.proofs.Common.{◌≡◌, ◌≢◌, ℕ, ◌+◌, ◌<◌, ◌≤◌, List, [], ◌∷◌, Bool, true, false, cond, not, ◌==◌, ◌&&◌, refl, sym, ap, ◌∙◌, subst, arith, Option, Some, None, eq-eqb, eqb-true, ne_eqb, inr, ◌⊎◌, ⊎_elim}
+use Rattle.std.proofs.Common.{◌≡◌, ◌≢◌, ℕ, ◌+◌, ◌<◌, List, [], Bool, true, false, cond, not, ◌==◌, ◌&&◌, refl, sym, ap, ◌∙◌, subst, arith, Option, Some, None, eq-eqb, eqb-true, ne_eqb, inr, ◌⊎◌, ⊎_elim}
 use Rattle.std.specs.Prelude.{IsTrue, count_by, if◌then◌else◌}
-use Rattle.std.specs.List.{AllByRecursion as Each, filter}
+use Rattle.std.specs.List.{filter}
 use Rattle.std.proofs.lemmas.List.Elements.{All-nil}
-use Rattle.std.proofs.lemmas.Bool.{and_left, and_right, and_parts}
+use Rattle.std.proofs.lemmas.Bool.{and_left, and_parts}
 use Rattle.gr_base.specs.Rising.{has}
 use Rattle.gr_base.proofs.Rising.{rises-nil}
 use Rattle.gr_program.specs.Program.{Program, ProgramLaws}
@@ -11,7 +11,6 @@ use Rattle.gr_program.specs.Rounds.{State, state_after, last_round}
 use Rattle.gr_log.specs.Log.{committed_log}
 use Rattle.gr_batch.specs.declared.batch.Batch.{Batch}
 use Rattle.gr_batch.specs.declared.stage.Stage.{Stage}
-use Rattle.gr_batch.specs.Bodies.{is_of, is_from}
 use Rattle.gr_sched.specs.declared.event.Event.{Event}
 use Rattle.gr_view.specs.declared.coordinator.Coordinator.{Coordinator}
 use Rattle.gr_view.specs.declared.coordinator.Mode.{Mode}
@@ -31,8 +30,9 @@ use Rattle.gr_lists.proofs.Tests.{by_test}
 use Rattle.gr_lists.proofs.Choices.{and_true_right}
 use Rattle.gr_lists.proofs.Each.{Each-weaker, Each-has}
 use Rattle.gr_lists.proofs.Any.{find-none_of, has-filter}
-use Rattle.gr_lists.proofs.Counts.{count_by-cons, count_by-agree}
+use Rattle.gr_lists.proofs.Counts.{count_by-agree}
 use Rattle.gr_law_network.proofs.Kept.{up-party}
+use Rattle.gr_law_network.proofs.Later.{none-reported, batch-later, none-stands-later}
 use Rattle.gr_law_round.proofs.Running.{no-reborn, parties-live, mastered}
 use Rattle.gr_law_commit.proofs.Next.{staged-next, arcs-next, entries-next, state-next, sound-next}
 use Rattle.gr_law_commit.proofs.Last.{done-at-last, not-done-before, done-or-running}
@@ -47,22 +47,6 @@ none-passes : (f : ℕ → Bool) (xs : List ℕ) → filter f xs ≡ [] → (v :
 none-passes f xs none v m = by_test (f v)
     (λ e. absurd (let there : has (filter f xs) v ≡ true = has-filter f xs v ∙ (ap (λ b. b && f v) m ∙ e) in let bad : false ≡ true = sym (ap (λ l. has l v) none) ∙ there in cc))
     (λ e. e)
-
-module _ {V A : Type 0} where
-  -- no batch has an epoch above the present one
-  none-of-above : (e p : ℕ) (s : Stage) (bs : List (Batch V A)) → Each (λ b. b.epoch ≤ e) bs → count_by (is_of p (e + 1) s) bs ≡ 0
-  none-of-above e p s [] h = refl
-  none-of-above e p s (b ∷ bs) h =
-      let le = h.0 in let ih = none-of-above e p s bs h.1 in let c = count_by-cons (is_of p (e + 1) s) b bs in
-      let no : is_of p (e + 1) s b ≡ false = and_right (b.sender == p) _ (and_left _ _ (ne_eqb b.epoch (e + 1) (λ x. absurd (omega (arith, le, x))))) in
-      let one : cond {A = ℕ} (is_of p (e + 1) s b) 1 0 ≡ 0 = ap (λ x. cond x 1 0) no in omega (arith, ih, c, one)
-
-  none-from-above : (e p q : ℕ) (s : Stage) (bs : List (Batch V A)) → Each (λ b. b.epoch ≤ e) bs → count_by (is_from p q (e + 1) s) bs ≡ 0
-  none-from-above e p q s [] h = refl
-  none-from-above e p q s (b ∷ bs) h =
-      let le = h.0 in let ih = none-from-above e p q s bs h.1 in let c = count_by-cons (is_from p q (e + 1) s) b bs in
-      let no : is_from p q (e + 1) s b ≡ false = and_right (b.receiver == q) _ (and_right (b.sender == p) _ (and_left _ _ (ne_eqb b.epoch (e + 1) (λ x. absurd (omega (arith, le, x)))))) in
-      let one : cond {A = ℕ} (is_from p q (e + 1) s b) 1 0 ≡ 0 = ap (λ x. cond x 1 0) no in omega (arith, ih, c, one)
 
 module _ {V A : Type 0} (P : Program V A) (t : Truth V) (c : Cluster V A) (L : ProgramLaws P) (AG : Agree P t c) (running : c.coordinator.mode ≡ mode.Running)
     (up : (p : ℕ) → has (parties c.coordinator) p ≡ true → is_up c p ≡ true) (all : (p : ℕ) → has (parties c.coordinator) p ≡ true → has c.coordinator.ready p ≡ true) where
@@ -111,21 +95,10 @@ module _ {V A : Type 0} (P : Program V A) (t : Truth V) (c : Cluster V A) (L : P
   none-shown p q s (Some h) at = not-shown p h at q s
 
   batch-next : (b : Batch V A) → BatchHolds P (view_of P c) (wanted_in P c) t c.coordinator b → BatchHolds P (view_of P d) (wanted_in P d) t' co' b
-  batch-next b B = let l = B.epoch in record {
-    apart = B.apart;
-    epoch = omega (arith, l);
-    sender = λ x. absurd (omega (arith, l, x));
-    receiver = λ x. absurd (omega (arith, l, x));
-    stage = λ x. absurd (omega (arith, l, x));
-    body = λ x. absurd (omega (arith, l, x));
-  }
+  batch-next = batch-later P (view_of P c) (wanted_in P c) t c.coordinator (view_of P d) (wanted_in P d) t' co' refl
 
   none-stands : (p q : ℕ) (s : Stage) → standing c.flight (host c q) p q (c.coordinator.epoch + 1) s ≡ 0
-  none-stands p q s =
-      let N = AG.open_work.network in
-      let a = none-from-above c.coordinator.epoch p q s c.flight (Each-weaker _ _ (λ b B. B.epoch) c.flight N.in_flight) in
-      let b = none-of-above c.coordinator.epoch p s (inbox_of (host c q)) (Each-weaker _ _ (λ b B. (B.0).epoch) (inbox_of (host c q)) (N.in_inbox q)) in
-      omega (arith, a, b)
+  none-stands = none-stands-later P (view_of P c) (wanted_in P c) t c.coordinator (host c) c.flight AG.open_work.network
 
   none-dead : c.coordinator.dead ≡ []
   none-dead = AG.committed.places.none_dead (ap may_have_dead running)
@@ -198,7 +171,7 @@ module _ {V A : Type 0} (P : Program V A) (t : Truth V) (c : Cluster V A) (L : P
       reports = record {
         ready = λ q h at y. let le = (AG.open_work.hosts q h at (is-party q h at)).epoch in sym (and_left _ _ (ne_eqb h.epoch (c.coordinator.epoch + 1) (λ x. absurd (omega (arith, le, x)))));
         none = λ e. (refl, refl);
-        due = λ e. sym (none-counted t.vertices);
+        due = λ e. sym (none-reported (active_next P t') t'.master t.vertices);
         due_bounded = λ e. omega arith;
       };
     };
@@ -206,12 +179,6 @@ module _ {V A : Type 0} (P : Program V A) (t : Truth V) (c : Cluster V A) (L : P
     where
       parties-live-at : (q : ℕ) → has (parties c.coordinator) q ≡ has c.coordinator.live q
       parties-live-at q = ap (λ l. has l q) (parties-live P t c AG no-rebuild)
-
-      none-counted : (vs : List ℕ) → count_by (λ v. active_next P t' v && has [] (t'.master v)) vs ≡ 0
-      none-counted [] = refl
-      none-counted (v ∷ vs) =
-          let ih = none-counted vs in let c1 = count_by-cons (λ v. active_next P t' v && has [] (t'.master v)) v vs in
-          let one : cond {A = ℕ} (active_next P t' v && false) 1 0 ≡ 0 = ap (λ x. cond x 1 0) (and_right (active_next P t' v) false refl) in omega (arith, ih, c1, one)
 
 module _ {V A : Type 0} (P : Program V A) (L : ProgramLaws P) (t : Truth V) (c : Cluster V A) (e : Event) (AG : Agree P t c) (commits : IsTrue (is_commit (step P c e).1)) (round : IsTrue (is_round c.coordinator.mode)) where
   running : c.coordinator.mode ≡ mode.Running

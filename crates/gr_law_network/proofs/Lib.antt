@@ -2,3 +2,4 @@ pub mod Frame
 pub mod Removal
 pub mod Taken
 pub mod Kept
+pub mod Later

@@ -1,0 +1,15 @@
+mod Opened
+mod Batches
+mod Parties
+mod Agrees
+mod Anew
+mod Repair
+mod Tables
+mod Places
+mod Returns
+mod Crashes
+mod Discard
+mod Lost
+mod Recovery
+mod Whole
+mod Unopened
