@@ -39,10 +39,17 @@ places-clear n p lt = members_without (is_bit n) (is_bit (bit_and n (2 ^ 64 - 1 
     (is_bit-zero _ p (bit_at_clear_same w64 n p lt))
     (λ q low high other. ap (λ (b : ℕ). eqb b 1) (bit_at_clear_other w64 n p lt q (omega arith) other))
 
+-- a bit, as the code reads it
+pub bit-on : (n p : ℕ) → bit_and (n / 2 ^ p) 1 ≡ 1 → is_bit n p ≡ true
+bit-on n p on = is_bit-one n p (sym (shr_and_one n p) ∙ on)
+
+pub bit-off : (n p : ℕ) → (bit_and (n / 2 ^ p) 1 ≡ 1 → ⊥) → is_bit n p ≡ false
+bit-off n p off = ne_eqb (bit_at n p) 1 (λ e. off (shr_and_one n p ∙ e))
+
 pub has-place : (n p : ℕ) → p < 64 → IsTrue (eqb (bit_and (n / 2 ^ p) 1) 1) ↔ Contains (members_from (is_bit n) 0 64) p
 has-place n p lt =
     let bit : bit_and (n / 2 ^ p) 1 ≡ bit_at n p = shr_and_one n p in (
-      (λ on. members_contains (is_bit n) p 0 64 (omega arith) (omega arith) (is_bit-one n p (sym bit ∙ eqb-true _ 1 on))),
+      (λ on. members_contains (is_bit n) p 0 64 (omega arith) (omega arith) (bit-on n p (eqb-true _ 1 on))),
       (λ has. eq-eqb _ 1 (bit ∙ eqb-true _ 1 (passes_from_contains (is_bit n) p 0 64 has).2)),
     )
 
