@@ -4,6 +4,7 @@ use Rattle.std.specs.Prelude.{◌&&◌, ◌↔◌, slice_get, bit_and, bit_or, c
 use Rattle.std.specs.List.{find, Contains, range_with_len}
 use Rattle.std.specs.Option.{option_or}
 use Rattle.std.specs.Int.{bit_at, w64, trailing_zeros}
+use Rattle.std.proofs.Math.Bool.{and-true}
 use Rattle.std.proofs.lemmas.Bool.{true≢false, cases_Bool, eq-eqb, ne_eqb, eqb-true, leb-true, leb-false, and_right}
 use Rattle.std.proofs.lemmas.Nat.Bits.{bit_at_set_same, bit_at_set_other, bit_at_clear_same, bit_at_clear_other, bit_at-zero, bit_at_and, shr_and_one, bit_at-trailing_zeros, bit_at_mask_inside, bit_at_mask_below, ones_shl, bit_at-lt, bit_at_ones, bit_at_ones_above}
 use lib.Count.{ones, ones_step}
@@ -38,10 +39,17 @@ places-clear n p lt = members_without (is_bit n) (is_bit (bit_and n (2 ^ 64 - 1 
     (is_bit-zero _ p (bit_at_clear_same w64 n p lt))
     (λ q low high other. ap (λ (b : ℕ). eqb b 1) (bit_at_clear_other w64 n p lt q (omega arith) other))
 
+-- a bit, as the code reads it
+pub bit-on : (n p : ℕ) → bit_and (n / 2 ^ p) 1 ≡ 1 → is_bit n p ≡ true
+bit-on n p on = is_bit-one n p (sym (shr_and_one n p) ∙ on)
+
+pub bit-off : (n p : ℕ) → (bit_and (n / 2 ^ p) 1 ≡ 1 → ⊥) → is_bit n p ≡ false
+bit-off n p off = ne_eqb (bit_at n p) 1 (λ e. off (shr_and_one n p ∙ e))
+
 pub has-place : (n p : ℕ) → p < 64 → IsTrue (eqb (bit_and (n / 2 ^ p) 1) 1) ↔ Contains (members_from (is_bit n) 0 64) p
 has-place n p lt =
     let bit : bit_and (n / 2 ^ p) 1 ≡ bit_at n p = shr_and_one n p in (
-      (λ on. members_contains (is_bit n) p 0 64 (omega arith) (omega arith) (is_bit-one n p (sym bit ∙ eqb-true _ 1 on))),
+      (λ on. members_contains (is_bit n) p 0 64 (omega arith) (omega arith) (bit-on n p (eqb-true _ 1 on))),
       (λ has. eq-eqb _ 1 (bit ∙ eqb-true _ 1 (passes_from_contains (is_bit n) p 0 64 has).2)),
     )
 
@@ -100,15 +108,11 @@ is_bit-above n s q le lt =
       | inl above ↦
           let one : bit_at (2 ^ 64 - 2 ^ s) q ≡ 1 = bit_at_mask_inside s 64 q (leb-true s q above) lt in
           let same : bit_at (bit_and n ((2 ^ 64 - 1) * 2 ^ s % 2 ^ 64)) q ≡ bit_at n q = omega (arith, bit, one, bit_at-lt n q) in
-          ap (λ (b : ℕ). eqb b 1) same ∙ sym (and_true (is_bit n q) (leb s q) above)
+          ap (λ (b : ℕ). eqb b 1) same ∙ sym (ap (λ (b : Bool). is_bit n q && b) above ∙ and-true (is_bit n q))
       | inr below ↦
           let none : bit_at (2 ^ 64 - 2 ^ s) q ≡ 0 = bit_at_mask_below s 64 q (leb-false s q below) in
           is_bit-zero _ q (omega (arith, bit, none)) ∙ sym (and_right (is_bit n q) (leb s q) below)
     ]
-  where
-    and_true : (x y : Bool) → y ≡ true → (x && y) ≡ x
-    and_true true y is = is
-    and_true false y is = refl
 
 module _ (n s : ℕ) (le : s ≤ 64) where
   abbrev places : List ℕ

@@ -1,10 +1,18 @@
--- The least member of a rising list that passes a test.
+-- A search that finds nothing, and one that finds the least member of a rising list that passes.
 use Rattle.std.proofs.Common.{◌≡◌, ◌∙◌, ◌<◌, ℕ, Bool, true, false, eqb, List, [], ◌∷◌, Some, None, refl, ap, arith, inl, inr}
 use Rattle.std.specs.Prelude.{◌||◌}
-use Rattle.std.specs.List.{find}
-use Rattle.std.proofs.lemmas.Bool.{cases_order, cond-true, cond-false, eq-eqb, ne_eqb, or_left, or_right}
+use Rattle.std.specs.List.{find, list_any}
+use Rattle.std.proofs.lemmas.Bool.{cases_Bool, cases_order, cond-true, cond-false, eq-eqb, ne_eqb, or_left, or_right}
 use Rattle.gr_base.specs.Rising.{RisesBy, has}
 use Rattle.gr_base.proofs.Rising.{rises-head, rises-tail, none-later}
+
+-- where a search finds nothing, none passes
+pub none-any : {X : Type 0} (p : X → Bool) (xs : List X) → find p xs ≡ None → list_any p xs ≡ false
+none-any p [] e = refl
+none-any p (x ∷ xs) e = elim (cases_Bool (p x)) [
+  | inl on ↦ let q = rw on at e in cc
+  | inr off ↦ rw off (none-any p xs (rw off at e))
+]
 
 pub none-missing : (t : ℕ → Bool) (ps : List ℕ) → ((q : ℕ) → has ps q ≡ true → t q ≡ false) → find t ps ≡ None
 none-missing t [] h = refl

@@ -1,13 +1,14 @@
 -- A set of places and its word, place by place.
-use Rattle.std.proofs.Common.{◌≡◌, ◌≢◌, ◌∙◌, ◌≤◌, ◌<◌, ◌+◌, ◌*◌, ◌/◌, ◌%◌, ◌^◌, ℕ, zero, suc, Bool, true, false, cond, eqb, List, [], ◌∷◌, ◌++◌, All, refl, sym, ap, add-one, arith, inl, inr}
-use Rattle.std.proofs.lemmas.Bool.{cases_Bool, cases_order, cases_eq, lt-ltb, le-ltb, cond-true, cond-false, eq-eqb, ne_eqb, or_left}
+use Rattle.std.proofs.Common.{◌≡◌, ◌∙◌, ◌≤◌, ◌<◌, ◌+◌, ◌*◌, ◌/◌, ◌%◌, ◌^◌, ℕ, zero, suc, Bool, true, false, cond, List, [], ◌∷◌, ◌++◌, All, refl, sym, ap, add-one, arith, inl, inr}
+use Rattle.std.proofs.lemmas.Bool.{cases_Bool, cases_eq, lt-ltb, le-ltb, cond-true, cond-false}
 use Rattle.std.proofs.lemmas.Nat.{pow-add, one_shl}
 use Rattle.std.proofs.Math.Nat.{pow-le-pow_right}
 use Rattle.std.proofs.lemmas.List.Elements.{All-cons, All-append}
 use Rattle.gr_base.specs.Places.{members_from, with_place, word_of, IsPlaces}
 use Rattle.gr_base.specs.Rising.{RisesBy, has}
 use Rattle.gr_base.proofs.Members.{members_on, members_off, members_nil, members_same}
-use Rattle.gr_base.proofs.Rising.{rises-head, rises-tail, rises-nil, none-later}
+use Rattle.gr_base.proofs.PlaceSets.{places-has}
+use Rattle.gr_base.proofs.Rising.{rises-nil}
 use Rattle.gr_batch.proofs.Lists.{rises-last}
 
 double : (a : ℕ) → 2 ^ (a + 1) ≡ 2 * 2 ^ a
@@ -61,37 +62,6 @@ module _ (f : ℕ → Bool) (p : ℕ) where
   word-without off =
       let bit : cond (f p) (2 ^ p) 0 ≡ 0 = cond-false (f p) (2 ^ p) 0 off in
       omega (arith, next, bit)
-
--- a rising list is that of the places which stand in it
-members_has : (ps : List ℕ) (a k : ℕ) → RisesBy (λ (n : ℕ). n) ps → All (λ p. a ≤ p) ps → All (λ p. p < a + k) ps → members_from (has ps) a k ≡ ps
-members_has [] a zero r low high = members_nil (has []) a
-members_has [] a (suc k) r low high = members_off (has []) a k refl ∙ members_has [] (a + 1) k r (λ i d l. absurd (omega arith)) (λ i d l. absurd (omega arith))
-members_has (p ∷ ps) a zero r low high = absurd (omega (arith, low 0 p (omega arith), high 0 p (omega arith)))
-members_has (p ∷ ps) a (suc k) r low high =
-    let first = low 0 p (omega arith) in
-    let later = rises-head (λ n. n) p ps r in
-    elim (cases_order p a) [
-      | inl same ↦
-          let on : has (p ∷ ps) a ≡ true = or_left (eqb p a) (has ps a) (eq-eqb p a same) in
-          let rest = members_has ps (a + 1) k (rises-tail (λ n. n) p ps r) (λ i d l. omega (arith, later i d l)) (λ i d l. omega (arith, high (suc i) d (omega arith))) in
-          members_on (has (p ∷ ps)) a k on ∙ ap (λ (qs : List ℕ). a ∷ qs) (members_same (has (p ∷ ps)) (has ps) (a + 1) k (λ q l h. skip p q ps (omega arith)) ∙ rest) ∙ ap (λ (q : ℕ). q ∷ ps) (sym same)
-      | inr apart ↦ elim apart [
-        | inl lt ↦ absurd (omega arith)
-        | inr gt ↦
-            let off : has (p ∷ ps) a ≡ false = skip p a ps (omega arith) ∙ (none-later (λ n. n) a p ps (omega arith) later).1 in
-            members_off (has (p ∷ ps)) a k off ∙ members_has (p ∷ ps) (a + 1) k r (above (a + 1) p ps (omega arith) later) (λ i d l. omega (arith, high i d l))
-      ]
-    ]
-  where
-    skip : (p q : ℕ) (ps : List ℕ) → p ≢ q → has (p ∷ ps) q ≡ has ps q
-    skip p q ps ne = let off = ne_eqb p q ne in rw off refl
-
-    above : (n p : ℕ) (ps : List ℕ) → n ≤ p → All (λ q. p < q) ps → All (λ q. n ≤ q) (p ∷ ps)
-    above n p ps le later zero d l = le
-    above n p ps le later (suc i) d l = omega (arith, later i d (omega arith))
-
-pub places_has : (ps : List ℕ) → IsPlaces ps → members_from (has ps) 0 64 ≡ ps
-places_has ps h = members_has ps 0 64 h.rise (λ i d l. omega arith) h.below
 
 -- the places of the low p bits of a word, and the rest of it
 pub record Holds (word : ℕ) (ps : List ℕ) (rest p : ℕ) : Type 0 where
@@ -169,5 +139,5 @@ same-bits f g (suc k) same q lt =
 
 pub word_of-same : (ps qs : List ℕ) → IsPlaces ps → IsPlaces qs → word_of ps ≡ word_of qs → ps ≡ qs
 word_of-same ps qs hp hq same =
-    let words : word_of (members_from (has ps) 0 64) ≡ word_of (members_from (has qs) 0 64) = ap word_of (places_has ps hp) ∙ same ∙ ap word_of (sym (places_has qs hq)) in
-    sym (places_has ps hp) ∙ members_same (has ps) (has qs) 0 64 (λ q low high. same-bits (has ps) (has qs) 64 words q (omega arith)) ∙ places_has qs hq
+    let words : word_of (members_from (has ps) 0 64) ≡ word_of (members_from (has qs) 0 64) = ap word_of (places-has ps hp) ∙ same ∙ ap word_of (sym (places-has qs hq)) in
+    sym (places-has ps hp) ∙ members_same (has ps) (has qs) 0 64 (λ q low high. same-bits (has ps) (has qs) 64 words q (omega arith)) ∙ places-has qs hq

@@ -1,9 +1,11 @@
 -- The holders at load, by the ends of the edges at each place.
-use Rattle.std.proofs.Common.{◌≡◌, ◌∙◌, ◌<◌, ◌≤◌, ◌+◌, ◌-◌, ℕ, zero, suc, Bool, true, false, not, eqb, ltb, cond, List, [], ◌∷◌, length, take, get_or, map, refl, ap, sym, arith, inl, inr}
+use Rattle.std.proofs.Common.{◌≡◌, ◌∙◌, ◌<◌, ◌≤◌, ◌+◌, ◌-◌, ℕ, zero, suc, Bool, false, not, eqb, ltb, cond, List, [], ◌∷◌, length, take, get_or, map, refl, ap, sym, arith, inl, inr}
 use Rattle.std.specs.Prelude.{◌&&◌, ◌||◌, slice_index_or, min}
 use Rattle.std.specs.List.{All, filter, list_any, range_with_len, enumerate_from}
-use Rattle.std.proofs.lemmas.Bool.{cases_Bool, ne_eqb, lt-ltb, le-ltb}
+use Rattle.std.proofs.Math.Bool.{and-true, and-false}
+use Rattle.std.proofs.lemmas.Bool.{cases_Bool, or_parts, ne_eqb, lt-ltb, le-ltb}
 use Rattle.std.proofs.lemmas.List.Elements.{All-cons, All-nil}
+use Rattle.std.proofs.lemmas.List.Folds.{list_any-append}
 use Rattle.std.proofs.lemmas.List.FromFn.{get_or-range_with_len, length-range_with_len}
 use Rattle.std.proofs.Math.Nat.{mod-lt}
 use Rattle.gr_base.specs.declared.records.Edge.{Edge}
@@ -11,18 +13,10 @@ use Rattle.gr_base.specs.declared.records.NumberedEdge.{NumberedEdge}
 use Rattle.gr_base.specs.Rising.{has, without}
 use Rattle.gr_base.specs.Places.{below, ring, IsPlaces}
 use Rattle.gr_cut.specs.Cut.{home, place_at_load, cut_of}
-use Rattle.gr_cut.proofs.Rows.{rows-at}
+use Rattle.gr_cut.proofs.Rows.{numbered_edge, rows-at}
 use Rattle.gr_copies.specs.Ends.{touches, edge_at, is_end}
 use Rattle.gr_copies.specs.Holders.{has_edge_of, needed_holders, first_holders, further}
-use Rattle.gr_copies.proofs.Selecting.{filter-same, filter-on, filter-off, members-below, has-append}
-
-and_true : (b : Bool) → (b && true) ≡ b
-and_true true = refl
-and_true false = refl
-
-and_false : (b : Bool) → (b && false) ≡ false
-and_false true = refl
-and_false false = refl
+use Rattle.gr_copies.proofs.Selecting.{filter-same, filter-on, filter-off, members-below}
 
 module _ (place : Edge → ℕ) (r : ℕ) (whole : List Edge) where
   abbrev here : NumberedEdge → Bool
@@ -30,9 +24,6 @@ module _ (place : Edge → ℕ) (r : ℕ) (whole : List Edge) where
 
   abbrev number : NumberedEdge → ℕ
   number x = x.number
-
-  abbrev numbered_edge : ℕ × Edge → NumberedEdge
-  numbered_edge x = record { number = x.0; edge = x.1 }
 
   -- a test of the edges of a row's numbers
   pub any-row : (f : Edge → Bool) (a : ℕ) (es : List Edge) → ((k : ℕ) (d : Edge) → k < length es → get_or whole (a + k) d ≡ get_or es k d)
@@ -50,11 +41,11 @@ module _ (place : Edge → ℕ) (r : ℕ) (whole : List Edge) where
             ap (λ l. list_any (λ n. f (edge_at whole n)) (map number l)) (filter-on here x more on)
             ∙ ap (λ g. f g || list_any (λ n. f (edge_at whole n)) (map number (filter here more))) first
             ∙ ap (λ b. f e || b) rest
-            ∙ ap (λ b. b || list_any (λ e. f e && eqb (place e) r) es) (sym (and_true (f e)) ∙ ap (λ b. f e && b) (sym on))
+            ∙ ap (λ b. b || list_any (λ e. f e && eqb (place e) r) es) (sym (and-true (f e)) ∙ ap (λ b. f e && b) (sym on))
         | inr off ↦
             ap (λ l. list_any (λ n. f (edge_at whole n)) (map number l)) (filter-off here x more off)
             ∙ rest
-            ∙ ap (λ b. b || list_any (λ e. f e && eqb (place e) r) es) (sym (and_false (f e)) ∙ ap (λ b. f e && b) (sym off))
+            ∙ ap (λ b. b || list_any (λ e. f e && eqb (place e) r) es) (sym (and-false (f e)) ∙ ap (λ b. f e && b) (sym off))
       ]
 
   -- a row's numbers are of edges
@@ -83,14 +74,10 @@ has-range_past : (a n q : ℕ) → a + n ≤ q → has (range_with_len a n) q �
 has-range_past a zero q le = refl
 has-range_past a (suc n) q le = ap (λ b. b || has (range_with_len (a + 1) n) q) (ne_eqb a q (λ e. omega arith)) ∙ has-range_past (a + 1) n q (omega arith)
 
-or-false : (a b : Bool) → (a || b) ≡ false → (a ≡ false) × (b ≡ false)
-or-false true b e = cc
-or-false false b e = (refl, e)
-
 has-filter_none : (f : ℕ → Bool) (xs : List ℕ) (q : ℕ) → has xs q ≡ false → has (filter f xs) q ≡ false
 has-filter_none f [] q none = refl
 has-filter_none f (x ∷ xs) q none =
-    let both = or-false (eqb x q) (has xs q) none in
+    let both = or_parts (eqb x q) (has xs q) none in
     elim (cases_Bool (f x)) [
       | inl on ↦ ap (λ l. has l q) (filter-on f x xs on) ∙ ap (λ b. b || has (filter f xs) q) both.0 ∙ has-filter_none f xs q both.1
       | inr off ↦ ap (λ l. has l q) (filter-off f x xs off) ∙ has-filter_none f xs q both.1
@@ -99,12 +86,9 @@ has-filter_none f (x ∷ xs) q none =
 has-take_none : (n : ℕ) (xs : List ℕ) (q : ℕ) → has xs q ≡ false → has (take n xs) q ≡ false
 has-take_none zero xs q none = refl
 has-take_none (suc n) [] q none = refl
-has-take_none (suc n) (x ∷ xs) q none = let both = or-false (eqb x q) (has xs q) none in ap (λ b. b || has (take n xs) q) both.0 ∙ has-take_none n xs q both.1
+has-take_none (suc n) (x ∷ xs) q none = let both = or_parts (eqb x q) (has xs q) none in ap (λ b. b || has (take n xs) q) both.0 ∙ has-take_none n xs q both.1
 
 module _ (places theta losses : ℕ) (es : List Edge) (most : places ≤ 64) (some : 1 ≤ places) where
-  home_low : (v : ℕ) → home places v < places
-  home_low v = mod-lt v some
-
   -- the ends of the edges at a place are those of the vertices with an edge there
   ends-there : (v r : ℕ) → r < places → is_end es (slice_index_or (cut_of places theta es) r []) v ≡ has_edge_of places theta losses es v r
   ends-there v r lt =
@@ -118,7 +102,7 @@ module _ (places theta losses : ℕ) (es : List Edge) (most : places ≤ 64) (so
       let t : ℕ → Bool = λ r. eqb h r || (ltb r places && is_end es (slice_index_or (cut_of places theta es) r []) v) in
       sym (members-below s 64 are.rise are.below)
       ∙ filter-same (has s) t (range_with_len 0 64) (λ k d lt. member (get_or (range_with_len 0 64) k d))
-      ∙ filter-past t 0 places 64 most (λ q le. let low = home_low v in
+      ∙ filter-past t 0 places 64 most (λ q le. let low : home places v < places = mod-lt v some in
       ap (λ b. b || (ltb q places && is_end es (slice_index_or (cut_of places theta es) q []) v)) (ne_eqb h q (λ e. omega arith))
       ∙ ap (λ b. b && is_end es (slice_index_or (cut_of places theta es) q []) v) (le-ltb q places (omega arith)))
       ∙ filter-same t (λ r. eqb h r || has_edge_of places theta losses es v r) (range_with_len 0 places) (λ k d lt.
@@ -136,7 +120,7 @@ module _ (places theta losses : ℕ) (es : List Edge) (most : places ≤ 64) (so
       let above = has-filter_none (λ p. ltb m p) (range_with_len 0 places) q none in
       let under = has-filter_none (λ p. ltb p m) (range_with_len 0 places) q none in
       let both : has (ring m (below places)) q ≡ false =
-      has-append (filter (λ p. ltb m p) (below places)) (filter (λ p. ltb p m) (below places)) q ∙ ap (λ b. b || has (filter (λ p. ltb p m) (below places)) q) above ∙ under in
+      list_any-append (λ x. eqb x q) (filter (λ p. ltb m p) (below places)) (filter (λ p. ltb p m) (below places)) ∙ ap (λ b. b || has (filter (λ p. ltb p m) (below places)) q) above ∙ under in
       has-take_none (n - length held) (without (ring m (below places)) held) q (has-filter_none (λ x. not (has held x)) (ring m (below places)) q both)
 
   -- what a vertex needs, with the next places

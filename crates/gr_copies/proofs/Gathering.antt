@@ -2,35 +2,20 @@
 use Rattle.std.proofs.Common.{◌≡◌, ◌∙◌, ◌<◌, ◌≤◌, ◌+◌, ◌-◌, ℕ, zero, suc, Bool, true, false, not, eqb, ltb, cond, List, [], ◌∷◌, ◌++◌, length, take, get_or, refl, ap, sym, arith, ◌⊎◌, inl, inr, length-append}
 use Rattle.std.specs.Prelude.{◌&&◌, ◌||◌}
 use Rattle.std.specs.List.{filter, range_with_len}
+use Rattle.std.proofs.Math.Bool.{or-false, or_assoc, and_comm}
 use Rattle.std.proofs.lemmas.Bool.{ltb-true, ltb-false}
-use Rattle.std.proofs.lemmas.List.{take-append-le}
+use Rattle.std.proofs.lemmas.List.{append-nil, take-append-le, take_all}
+use Rattle.std.proofs.lemmas.List.Folds.{list_any-append}
 use Rattle.std.proofs.lemmas.List.Elements.{filter-append}
 use Rattle.gr_base.specs.Rising.{has, without}
 use Rattle.gr_base.specs.Places.{with_place, ring, IsPlaces}
-use Rattle.gr_copies.proofs.Selecting.{filter-same, filter-filter, filter-range_more, has-append, has-with, take-both, ring-ranges}
+use Rattle.gr_base.proofs.WithPlace.{has-with_place}
+use Rattle.gr_copies.proofs.Selecting.{filter-same, filter-filter, filter-range_more, take-both, ring-ranges}
 
 -- the places before, with the first of the candidates in the range, and how many are missing still
 pub record IsGathered (before candidates : List ℕ) (from to count : ℕ) (places : List ℕ) (missing : ℕ) : Type 0 where
   pub members : (r : ℕ) → has places r ≡ (has before r || has (take count (filter (has candidates) (range_with_len from (to - from)))) r)
   pub left : missing ≡ count - length (filter (has candidates) (range_with_len from (to - from)))
-
-take-whole : {X : Type 0} (n : ℕ) (xs : List X) → length xs ≤ n → take n xs ≡ xs
-take-whole zero [] le = refl
-take-whole (suc n) [] le = refl
-take-whole zero (x ∷ xs) le = absurd (omega arith)
-take-whole (suc n) (x ∷ xs) le = ap (λ l. x ∷ l) (take-whole n xs (omega arith))
-
-append-nil : (xs : List ℕ) → xs ++ [] ≡ xs
-append-nil [] = refl
-append-nil (x ∷ xs) = ap (λ l. x ∷ l) (append-nil xs)
-
-or_assoc : (a b c : Bool) → ((a || b) || c) ≡ (a || (b || c))
-or_assoc true b c = refl
-or_assoc false b c = refl
-
-or_nothing : (a : Bool) → (a || false) ≡ a
-or_nothing true = refl
-or_nothing false = refl
 
 module _ (before c : List ℕ) (a p n : ℕ) (ps : List ℕ) (m : ℕ) (low : a ≤ p) (was : IsGathered before c a p n ps m) where
   abbrev found : List ℕ
@@ -49,16 +34,16 @@ module _ (before c : List ℕ) (a p n : ℕ) (ps : List ℕ) (m : ℕ) (low : a 
       let next : filter (has c) (range_with_len a (p + 1 - a)) ≡ found ++ p ∷ [] = found-more ∙ ap (λ (b : Bool). found ++ cond b (p ∷ []) []) on in
       let long : length (filter (has c) (range_with_len a (p + 1 - a))) ≡ length found + 1 = ap length next ∙ length-append found (p ∷ []) in
       let room : length found + 1 ≤ n = omega (arith, was.left) in
-      let all : take n (filter (has c) (range_with_len a (p + 1 - a))) ≡ found ++ p ∷ [] = take-whole n (filter (has c) (range_with_len a (p + 1 - a))) (omega (arith, long, room)) ∙ next in
-      let so_far : take n found ≡ found = take-whole n found (omega arith) in
+      let all : take n (filter (has c) (range_with_len a (p + 1 - a))) ≡ found ++ p ∷ [] = take_all n (filter (has c) (range_with_len a (p + 1 - a))) (omega (arith, long, room)) ∙ next in
+      let so_far : take n found ≡ found = take_all n found (omega arith) in
       record {
         members = λ r.
-            has-with ps p r
+            has-with_place ps p r
             ∙ ap (λ (b : Bool). b || eqb p r) (was.members r)
             ∙ ap (λ l. (has before r || has l r) || eqb p r) so_far
             ∙ or_assoc (has before r) (has found r) (eqb p r)
-            ∙ ap (λ (b : Bool). has before r || (has found r || b)) (sym (or_nothing (eqb p r)))
-            ∙ ap (λ (b : Bool). has before r || b) (sym (has-append found (p ∷ []) r))
+            ∙ ap (λ (b : Bool). has before r || (has found r || b)) (sym (or-false (eqb p r)))
+            ∙ ap (λ (b : Bool). has before r || b) (sym (list_any-append (λ x. eqb x r) found (p ∷ [])))
             ∙ ap (λ l. has before r || has l r) (sym all);
         left = omega (arith, was.left, long);
       }
@@ -91,7 +76,7 @@ gathered-none before c a n =
     let none : a - a ≡ 0 = omega arith in
     let empty : filter (has c) (range_with_len a (a - a)) ≡ [] = ap (λ k. filter (has c) (range_with_len a k)) none in
     record {
-      members = λ r. sym (or_nothing (has before r)) ∙ ap (λ l. has before r || has l r) (sym (take-nil n)) ∙ ap (λ l. has before r || has (take n l) r) (sym empty);
+      members = λ r. sym (or-false (has before r)) ∙ ap (λ l. has before r || has l r) (sym (take-nil n)) ∙ ap (λ l. has before r || has (take n l) r) (sym empty);
       left = (let e : n ≡ n - 0 = omega arith in e) ∙ ap (λ l. n - length l) (sym empty);
     }
 
@@ -114,7 +99,7 @@ gathered-ring before c m n ps qs k j are lt above under = λ r.
     ∙ ap (λ (b : Bool). b || has (take k lower) r) (above.members r)
     ∙ ap (λ i. (has before r || has (take n upper) r) || has (take i lower) r) above.left
     ∙ or_assoc (has before r) (has (take n upper) r) (has (take (n - length upper) lower) r)
-    ∙ ap (λ (b : Bool). has before r || b) (sym (has-append (take n upper) (take (n - length upper) lower) r))
+    ∙ ap (λ (b : Bool). has before r || b) (sym (list_any-append (λ x. eqb x r) (take n upper) (take (n - length upper) lower)))
     ∙ ap (λ l. has before r || has l r) (sym (take-both n upper lower))
     ∙ ap (λ l. has before r || has (take n l) r) (ring-ranges c m are.rise are.below lt)
 
@@ -125,11 +110,5 @@ ring-without m xs gone =
     ∙ ap (λ l. filter (λ q. not (has gone q)) (filter (λ q. ltb m q) xs) ++ l) (swap (λ q. ltb q m) xs)
     ∙ sym (filter-append (λ q. not (has gone q)) (filter (λ q. ltb m q) xs) (filter (λ q. ltb q m) xs))
   where
-    and_swap : (a b : Bool) → (a && b) ≡ (b && a)
-    and_swap true true = refl
-    and_swap true false = refl
-    and_swap false true = refl
-    and_swap false false = refl
-
     swap : (f : ℕ → Bool) (xs : List ℕ) → filter f (without xs gone) ≡ without (filter f xs) gone
-    swap f xs = filter-filter f (λ q. not (has gone q)) xs ∙ filter-same _ _ xs (λ k d lt. and_swap (not (has gone (get_or xs k d))) (f (get_or xs k d))) ∙ sym (filter-filter (λ q. not (has gone q)) f xs)
+    swap f xs = filter-filter f (λ q. not (has gone q)) xs ∙ filter-same _ _ xs (λ k d lt. and_comm (not (has gone (get_or xs k d))) (f (get_or xs k d))) ∙ sym (filter-filter (λ q. not (has gone q)) f xs)

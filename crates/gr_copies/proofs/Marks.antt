@@ -1,31 +1,16 @@
 -- Marks of a place in sets.
 use Rattle.std.proofs.Common.{◌≡◌, ◌∙◌, ◌<◌, ◌+◌, ℕ, Bool, true, false, eqb, ltb, List, [], ◌∷◌, length, take, get_or, set, refl, ap, sym, arith, inl, inr}
 use Rattle.std.specs.Prelude.{◌&&◌, ◌||◌, slice_index, slice_index_or}
+use Rattle.std.proofs.Math.Bool.{and-true, and-false, or-false, or_assoc}
 use Rattle.std.proofs.lemmas.Bool.{cases_eq, cases_order, eq-eqb, ne_eqb, lt-ltb, le-ltb}
 use Rattle.std.proofs.lemmas.List.{get_or_default, get_or-set_same, get_or-set_other, length-set}
 use Rattle.std.proofs.lemmas.List.Folds.{list_any_more}
 use Rattle.gr_base.specs.declared.records.Edge.{Edge}
 use Rattle.gr_base.specs.Rising.{RisesBy, has}
 use Rattle.gr_base.specs.Places.{with_place}
+use Rattle.gr_base.proofs.WithPlace.{has-with_place}
 use Rattle.gr_cut.specs.Cut.{home}
 use Rattle.gr_copies.specs.Ends.{touches, edge_at, is_end, IsMarked, AreEnds}
-use Rattle.gr_copies.proofs.Selecting.{has-with}
-
-and_true : (b : Bool) → (b && true) ≡ b
-and_true true = refl
-and_true false = refl
-
-and_false : (b : Bool) → (b && false) ≡ false
-and_false true = refl
-and_false false = refl
-
-or_nothing : (b : Bool) → (b || false) ≡ b
-or_nothing true = refl
-or_nothing false = refl
-
-or_assoc : (a b c : Bool) → ((a || b) || c) ≡ (a || (b || c))
-or_assoc true b c = refl
-or_assoc false b c = refl
 
 same-place : (vs : List ℕ) (j k : ℕ) → RisesBy (λ (n : ℕ). n) vs → j < length vs → k < length vs → slice_index vs j ≡ slice_index vs k → j ≡ k
 same-place vs j k rise lj lk same = elim (cases_order j k) [
@@ -50,15 +35,15 @@ module _ (vs : List ℕ) (p : ℕ) where
               let on : eqb v (slice_index vs k) ≡ true = eq-eqb v (slice_index vs k) (sym is ∙ sym (ap (slice_index vs) same)) in
               ap (λ j. has (get_or (set old at new) j []) r) same
               ∙ ap (λ l. has l r) (get_or-set_same old at new [] low)
-              ∙ has-with (get_or old at e) p r
+              ∙ has-with_place (get_or old at e) p r
               ∙ ap (λ l. has l r || eqb p r) (get_or_default old at e [] low ∙ sym (ap (λ j. get_or old j []) same))
-              ∙ ap (λ b. has (get_or old k []) r || b) (sym (and_true (eqb p r)))
+              ∙ ap (λ b. has (get_or old k []) r || b) (sym (and-true (eqb p r)))
               ∙ ap (λ b. has (get_or old k []) r || (eqb p r && b)) (sym on)
           | inr apart ↦
               let off : eqb v (slice_index vs k) ≡ false = ne_eqb v (slice_index vs k) (λ q. apart (sym (same-place vs at k rise lt lk (is ∙ q)))) in
               ap (λ l. has l r) (get_or-set_other old at k new [] apart)
-              ∙ sym (or_nothing (has (get_or old k []) r))
-              ∙ ap (λ b. has (get_or old k []) r || b) (sym (and_false (eqb p r)))
+              ∙ sym (or-false (has (get_or old k []) r))
+              ∙ ap (λ b. has (get_or old k []) r || b) (sym (and-false (eqb p r)))
               ∙ ap (λ b. has (get_or old k []) r || (eqb p r && b)) (sym off)
         ];
       }
@@ -86,7 +71,7 @@ module _ (vs : List ℕ) (p : ℕ) where
   pub marks-none : (es : List Edge) (a : List (List ℕ)) → IsMarked vs p (is_end es []) a a
   marks-none es a = record {
     long = refl;
-    members = λ k lk r. sym (or_nothing (has (slice_index_or a k []) r)) ∙ ap (λ h. has (slice_index_or a k []) r || h) (sym (and_false (eqb p r)));
+    members = λ k lk r. sym (or-false (has (slice_index_or a k []) r)) ∙ ap (λ h. has (slice_index_or a k []) r || h) (sym (and-false (eqb p r)));
   }
 
   -- the ends of one edge more
@@ -126,17 +111,17 @@ ends-more places p es rows vs a b was marked = record {
             let now : here ≡ test = ap (λ q. is_end es (slice_index_or rows q []) v) (sym same) in
             ap (λ t. (h || (t && test)) || (eqb p r && here)) (le-ltb r p (omega arith))
             ∙ ap (λ t. (h || false) || (t && here)) (eq-eqb p r (sym same))
-            ∙ ap (λ t. t || here) (or_nothing h)
+            ∙ ap (λ t. t || here) (or-false h)
             ∙ ap (λ t. h || t) now
             ∙ ap (λ t. h || (t && test)) (sym (lt-ltb r (p + 1) (omega arith)))
         | inr o ↦ elim o [
           | inl lt ↦
               ap (λ t. (h || (ltb r p && test)) || (t && here)) (ne_eqb p r (λ e. omega arith))
-              ∙ or_nothing (h || (ltb r p && test))
+              ∙ or-false (h || (ltb r p && test))
               ∙ ap (λ t. h || (t && test)) (lt-ltb r p lt ∙ sym (lt-ltb r (p + 1) (omega arith)))
           | inr gt ↦
               ap (λ t. (h || (ltb r p && test)) || (t && here)) (ne_eqb p r (λ e. omega arith))
-              ∙ or_nothing (h || (ltb r p && test))
+              ∙ or-false (h || (ltb r p && test))
               ∙ ap (λ t. h || (t && test)) (le-ltb r p (omega arith) ∙ sym (le-ltb r (p + 1) (omega arith)))
         ]
       ]);

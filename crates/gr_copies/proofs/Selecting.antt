@@ -1,11 +1,11 @@
 -- Members of rising lists.
-use Rattle.std.proofs.Common.{◌≡◌, ◌∙◌, ◌<◌, ◌≤◌, ◌+◌, ◌-◌, ℕ, zero, suc, Bool, true, false, not, eqb, ltb, cond, List, [], ◌∷◌, ◌++◌, length, take, get_or, refl, ap, sym, arith, inl, inr}
+use Rattle.std.proofs.Common.{◌≡◌, ◌∙◌, ◌<◌, ◌≤◌, ◌+◌, ◌-◌, ℕ, zero, suc, Bool, true, false, not, ltb, cond, List, [], ◌∷◌, ◌++◌, length, take, get_or, refl, ap, sym, arith, inl, inr}
 use Rattle.std.specs.Prelude.{◌&&◌, ◌||◌}
 use Rattle.std.specs.List.{All, filter, range_with_len}
 use Rattle.std.proofs.lemmas.Bool.{cases_Bool, cases_order, cases_lt, cond-true, cond-false, eq-eqb, ne_eqb, lt-ltb, le-ltb, and_left, and_right, and_from}
 use Rattle.std.proofs.lemmas.List.Elements.{All-cons, All-head, All-tail}
 use Rattle.gr_base.specs.Rising.{RisesBy, has}
-use Rattle.gr_base.specs.Places.{with_place, ring}
+use Rattle.gr_base.specs.Places.{ring}
 use Rattle.gr_base.proofs.Rising.{rises-tail, rises-head, none-later}
 
 -- tests that agree on the elements
@@ -25,45 +25,6 @@ filter-filter f g (x ∷ xs) = elim (cases_Bool (g x)) [
   ]
   | inr off ↦ rw off (filter-filter f g xs)
 ]
-
-pub has-append : (xs ys : List ℕ) (p : ℕ) → has (xs ++ ys) p ≡ (has xs p || has ys p)
-has-append [] ys p = refl
-has-append (x ∷ xs) ys p = ap (λ b. eqb x p || b) (has-append xs ys p) ∙ sym (or_assoc (eqb x p) (has xs p) (has ys p))
-  where
-    or_assoc : (a b c : Bool) → ((a || b) || c) ≡ (a || (b || c))
-    or_assoc true b c = refl
-    or_assoc false b c = refl
-
--- a set with one more place
-pub has-with : (ps : List ℕ) (q p : ℕ) → has (with_place ps q) p ≡ (has ps p || eqb q p)
-has-with [] q p = or_false (eqb q p)
-  where
-    or_false : (b : Bool) → (b || false) ≡ b
-    or_false true = refl
-    or_false false = refl
-has-with (x ∷ xs) q p = elim (cases_order q x) [
-  | inl same ↦
-      rw (le-ltb x q (omega arith), le-ltb q x (omega arith)) (ap (λ (n : ℕ). eqb x p || has xs p) same ∙ twice (eqb x p) (has xs p) ∙ ap (λ (n : ℕ). (eqb x p || has xs p) || eqb n p) (sym same))
-  | inr o ↦ elim o [
-    | inl lt ↦ rw (lt-ltb q x lt) (swap (eqb q p) (eqb x p || has xs p))
-    | inr gt ↦ rw (le-ltb q x (omega arith), lt-ltb x q gt) (ap (λ b. eqb x p || b) (has-with xs q p) ∙ assoc (eqb x p) (has xs p) (eqb q p))
-  ]
-]
-  where
-    twice : (a b : Bool) → (a || b) ≡ ((a || b) || a)
-    twice true b = refl
-    twice false true = refl
-    twice false false = refl
-
-    swap : (a b : Bool) → (a || b) ≡ (b || a)
-    swap true true = refl
-    swap true false = refl
-    swap false true = refl
-    swap false false = refl
-
-    assoc : (a b c : Bool) → (a || (b || c)) ≡ ((a || b) || c)
-    assoc true b c = refl
-    assoc false b c = refl
 
 -- a chosen head, and one that is not
 pub filter-on : {X : Type 0} (f : X → Bool) (x : X) (xs : List X) → f x ≡ true → filter f (x ∷ xs) ≡ x ∷ filter f xs

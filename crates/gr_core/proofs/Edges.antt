@@ -7,16 +7,13 @@ use Rattle.gr_base.specs.declared.records.NumberedEdge.{NumberedEdge}
 use Rattle.gr_base.specs.Rising.{RisesBy}
 use Rattle.gr_base.proofs.Rising.{filter-rises}
 use Rattle.gr_cut.specs.Cut.{numbered, place_at_load, edges_at_load, cut_of}
-use Rattle.gr_cut.proofs.Rows.{rows-count, rows-at}
+use Rattle.gr_cut.proofs.Rows.{numbered_edge, rows-count, rows-at}
 use Rattle.gr_copies.specs.Ends.{edge_at}
 use Rattle.gr_copies.proofs.FirstHolders.{row-bound}
 use Rattle.gr_copies.proofs.Selecting.{filter-on, filter-off}
 use Rattle.gr_lists.proofs.Maps.{rises-map}
-use Rattle.gr_lists.proofs.Numbers.{range-rises}
+use Rattle.gr_base.proofs.Ranges.{range-rises}
 use Rattle.gr_law_load.proofs.Ranges.{numbered-numbers}
-
-abbrev numbered_edge : ℕ × Edge → NumberedEdge
-numbered_edge x = record { number = x.0; edge = x.1 }
 
 -- the edge of a number, with it
 abbrev pub numbered_at : List Edge → ℕ → NumberedEdge

@@ -1,19 +1,17 @@
 -- What is known of a cluster that runs undisturbed, and that it goes on so.
-use Rattle.std.proofs.Common.{◌≡◌, ℕ, ◌+◌, ◌-◌, ◌^◌, ◌<◌, ◌≤◌, List, [], Bool, true, false, refl, sym, ap, ◌∙◌, subst, arith, Option, Some, None, Result, Ok, Err}
+use Rattle.std.proofs.Common.{◌≡◌, ◌<◌, [], false, refl, sym, ap, ◌∙◌, subst, Result, Ok, Err}
 use Rattle.std.specs.Prelude.{IsTrue, IfOk, OnErr}
 use Rattle.gr_program.specs.Program.{Program, ProgramLaws}
 use Rattle.gr_batch.specs.declared.outcome.Outcome.{Outcome}
 use Rattle.gr_sched.specs.declared.event.Event.{Event}
 use Rattle.gr_view.specs.Modes.{is_over, is_rebuild}
-use Rattle.gr_view.specs.Decisions.{parties, looked_at}
+use Rattle.gr_view.specs.Decisions.{looked_at}
 use Rattle.gr_cluster.specs.Tables.{Cluster}
 use Rattle.gr_cluster.specs.Step.{step, down_among}
 use Rattle.gr_agree.specs.Truth.{edge_list}
-use Rattle.gr_program.specs.Rounds.{last_round}
-use Rattle.gr_program.proofs.LastRound.{last_round-least}
 use Rattle.gr_view.specs.declared.coordinator.Mode.TheVariants as mode
 use Rattle.gr_law_runs.specs.Undisturbed.{is_plain, RunsUndisturbed}
-use Rattle.gr_law_runs.proofs.Plain.{IsUndisturbed, plain-undisturbed, in-undisturbed, no-rebuild, nobody-down, looks-at-parties}
+use Rattle.gr_law_runs.proofs.Plain.{IsUndisturbed, plain-undisturbed, in-undisturbed, no-rebuild, nobody-down, looks-at-parties, round-below}
 
 module _ {V A : Type 0} (P : Program V A) (L : ProgramLaws P) (c : Cluster V A) (U : RunsUndisturbed P c) where
   pub runs-on : (e : Event) → IsTrue (is_plain e) → RunsUndisturbed P (step P c e).0
@@ -34,12 +32,7 @@ module _ {V A : Type 0} (P : Program V A) (L : ProgramLaws P) (c : Cluster V A) 
 
   -- until the run is over the committed rounds are below the limit
   pub rounds-below : is_over c.coordinator.mode ≡ false → c.coordinator.round < c.coordinator.limit
-  rounds-below o =
-      let es = edge_list U.0 in
-      let vs = (U.0).vertices in
-      let r = (U.1).agrees.open_work.end.not_done (λ d. let bad : true ≡ false = sym (ap is_over d) ∙ o in cc) in
-      let l = (last_round-least P es vs c.coordinator.limit).within in
-      omega (arith, r, l)
+  rounds-below o = round-below P U.0 c (U.1).agrees o
 
 -- what a call that steps or fails leaves runs undisturbed
 pub runs-stepped : {V A E : Type 0} (P : Program V A) (c d : Cluster V A) (s : Cluster V A × Outcome V A) (r : Result (Outcome V A) E)

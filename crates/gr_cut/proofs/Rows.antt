@@ -1,8 +1,8 @@
 -- The numbers of the edges at each place, edge by edge.
-use Rattle.std.proofs.Common.{◌≡◌, ◌∙◌, ◌<◌, ◌+◌, ℕ, Bool, eqb, cond, List, [], ◌∷◌, ◌++◌, length, take, get_or, set, map, replicate, refl, ap, sym, arith, inl, inr}
+use Rattle.std.proofs.Common.{◌≡◌, ◌∙◌, ◌<◌, ◌+◌, ℕ, Bool, eqb, cond, List, [], ◌∷◌, ◌++◌, length, take, get_or, set, map, replicate, ap, sym, arith, inl, inr}
 use Rattle.std.specs.List.{filter, enumerate_from}
 use Rattle.std.proofs.lemmas.Bool.{cases_eq, eq-eqb, ne_eqb}
-use Rattle.std.proofs.lemmas.List.{take_more, map-append, get_or-map, get_or-set_same, get_or-set_other, length-set, length-map, length-replicate, get_or-replicate, same_lists, length-take-le}
+use Rattle.std.proofs.lemmas.List.{append-nil, take_more, map-append, get_or-map, get_or-set_same, get_or-set_other, length-set, length-map, length-replicate, get_or-replicate, same_lists, length-take-le}
 use Rattle.std.proofs.lemmas.List.Elements.{filter-append}
 use Rattle.std.proofs.lemmas.List.FromFn.{length-range_with_len, get_or-range_with_len}
 use Rattle.gr_base.specs.declared.records.Edge.{Edge}
@@ -10,7 +10,7 @@ use Rattle.gr_base.specs.declared.records.NumberedEdge.{NumberedEdge}
 use Rattle.gr_base.specs.Places.{below}
 use Rattle.gr_cut.specs.Cut.{numbered}
 
-abbrev numbered_edge : ℕ × Edge → NumberedEdge
+abbrev pub numbered_edge : ℕ × Edge → NumberedEdge
 numbered_edge x = record { number = x.0; edge = x.1 }
 
 enumerate-push : (a : ℕ) (es : List Edge) (e : Edge) → enumerate_from a (es ++ e ∷ []) ≡ enumerate_from a es ++ (a + length es, e) ∷ []
@@ -39,10 +39,6 @@ module _ (place : Edge → ℕ) where
 
   row-here : (es : List Edge) (e : Edge) (p : ℕ) → place e ≡ p → row (es ++ e ∷ []) p ≡ row es p ++ length es ∷ []
   row-here es e p at = let on = eq-eqb (place e) p at in row-push es e p ∙ ap (λ (b : Bool). row es p ++ map (λ (a : NumberedEdge). a.number) (cond b (numbered_edge (length es, e) ∷ []) [])) on
-
-  append-nil : (xs : List ℕ) → xs ++ [] ≡ xs
-  append-nil [] = refl
-  append-nil (x ∷ xs) = ap (λ l. x ∷ l) (append-nil xs)
 
   row-there : (es : List Edge) (e : Edge) (p : ℕ) → (place e ≡ p → ⊥) → row (es ++ e ∷ []) p ≡ row es p
   row-there es e p apart = let off = ne_eqb (place e) p apart in row-push es e p ∙ ap (λ (b : Bool). row es p ++ map (λ (a : NumberedEdge). a.number) (cond b (numbered_edge (length es, e) ∷ []) [])) off ∙ append-nil (row es p)

@@ -1,28 +1,13 @@
 -- The ends of generated edges stand among the vertices.
-use Rattle.std.proofs.Common.{◌≡◌, ℕ, zero, suc, ◌+◌, ◌*◌, ◌%◌, ◌<◌, ◌≤◌, min, Bool, true, eqb, cond, length, sym, ap, ◌∙◌, subst, arith, inl, inr}
-use Rattle.std.specs.Prelude.{◌||◌}
+use Rattle.std.proofs.Common.{◌≡◌, ℕ, ◌+◌, ◌*◌, ◌%◌, ◌<◌, ◌≤◌, min, Bool, eqb, cond, length, sym, ap, subst, arith, inl, inr}
 use Rattle.std.specs.List.{All, range_with_len}
-use Rattle.std.proofs.lemmas.Bool.{cases_Bool, cases_eq, eq-eqb}
-use Rattle.std.proofs.lemmas.List.FromFn.{length-range_with_len, get_or-range_with_len, get_or-map-range_with_len, length-map-range_with_len}
+use Rattle.std.proofs.lemmas.Bool.{cases_Bool}
+use Rattle.std.proofs.lemmas.List.FromFn.{get_or-map-range_with_len, length-map-range_with_len}
 use Rattle.std.proofs.Math.Nat.{mod-lt}
-use Rattle.gr_base.specs.Rising.{RisesBy, has}
+use Rattle.gr_base.proofs.Ranges.{has-range}
 use Rattle.gr_edges.specs.Vertices.{HasEnds}
-use Rattle.gr_edges.proofs.Ids.{or_true}
 use Rattle.gr_gen.specs.Draws.{draw}
 use Rattle.gr_gen.specs.Generated.{target_count, vertex_count, vertices_below, edge_of, edges_of}
-
-pub range-rises : (a n : ℕ) → RisesBy (λ (k : ℕ). k) (range_with_len a n)
-range-rises a n = λ i j d below lt.
-    let lj : j < n = omega (arith, length-range_with_len a n) in
-    let li : i < n = omega arith in
-    omega (arith, get_or-range_with_len a n i d li, get_or-range_with_len a n j d lj)
-
-pub has-range : (a n v : ℕ) → a ≤ v → v < a + n → has (range_with_len a n) v ≡ true
-has-range a zero v low high = absurd (omega arith)
-has-range a (suc n) v low high = elim (cases_eq a v) [
-  | inl e ↦ ap (λ (b : Bool). b || has (range_with_len (a + 1) n) v) (eq-eqb a v e)
-  | inr ne ↦ ap (λ (b : Bool). eqb a v || b) (has-range (a + 1) n v (omega arith) (omega arith)) ∙ or_true (eqb a v)
-]
 
 -- there is a vertex to end at, and none of them is beyond the vertices
 pub target_count-bounds : (vertices i : ℕ) → 0 < vertices → (0 < target_count vertices i) × (target_count vertices i ≤ vertices)

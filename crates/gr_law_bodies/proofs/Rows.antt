@@ -1,8 +1,8 @@
 -- What a place's rows and edges give, where they are those of the committed state.
-use Rattle.std.proofs.Common.{◌≡◌, ◌<◌, ℕ, zero, suc, List, [], ◌∷◌, Bool, true, false, cond, arith, not, ◌==◌, ◌&&◌, map, filter, filter_map, refl, sym, ap, ◌∙◌, subst, Some, None, if◌then◌else◌, eqb-true, eq-eqb}
+use Rattle.std.proofs.Common.{◌≡◌, ℕ, List, [], ◌∷◌, Bool, true, false, cond, arith, not, ◌==◌, ◌&&◌, map, filter, filter_map, refl, sym, ap, ◌∙◌, subst, Some, None, if◌then◌else◌, eqb-true, eq-eqb}
 use Rattle.std.specs.Prelude.{IsTrue, option_map}
 use Rattle.std.specs.List.{AllByRecursion as Each, list_any, cons_option, fold}
-use Rattle.std.proofs.lemmas.Bool.{both_ways, and_right}
+use Rattle.std.proofs.lemmas.Bool.{both_ways, and_right, eqb-false}
 use Rattle.gr_base.specs.declared.records.NumberedEdge.{NumberedEdge}
 use Rattle.gr_base.specs.Rising.{has}
 use Rattle.gr_base.specs.Places.{without_place}
@@ -79,12 +79,8 @@ module _ {V A : Type 0} (P : Program V A) (t : Truth V) (p : ℕ) where
     own-sum_at v = ap (total P) (map-filter-filter-agree (λ a. along_row P (row (rows_at P t p) a.edge.src) a.edge.weight) (brings P t) (into v) (λ a. place_of t a == p) t.edges
         (Each-both _ _ _ (λ a k h e. along-row_at a k.0 k.1 h (eqb-true (place_of t a) p e)) t.edges known S.sources_held))
 
-    reads-some : (d : ℕ) → (d == 0) ≡ false → 0 < d
-    reads-some zero e = absurd (let bad : true ≡ false = e in cc)
-    reads-some (suc d) e = omega arith
-
     pub brings-kept : Each (λ a. IsTrue (P.is_acc (brings P t a))) t.edges
-    brings-kept = Each-weaker _ _ (λ a k. L.along_kept (t.state.value a.edge.src) a.edge.weight (true_outdegree t a.edge.src) (N.values a.edge.src k.1) (reads-some _ k.0)) t.edges known
+    brings-kept = Each-weaker _ _ (λ a k. L.along_kept (t.state.value a.edge.src) a.edge.weight (true_outdegree t a.edge.src) (N.values a.edge.src k.1) (let some = eqb-false (true_outdegree t a.edge.src) 0 k.0 in omega arith)) t.edges known
 
     sums-kept : (es : List NumberedEdge) → Each (λ a. IsTrue (P.is_acc (brings P t a))) es → Each (λ x. IsTrue (P.is_acc x)) (map (brings P t) es)
     sums-kept [] h = tt

@@ -3,6 +3,8 @@ use Rattle.std.proofs.Common.{◌≡◌, ◌<◌, ℕ, List, [], ◌∷◌, ◌+
 use Rattle.std.specs.Prelude.{unwrap_or}
 use Rattle.std.specs.List.{AllByRecursion as Each, list_any}
 use Rattle.std.proofs.lemmas.Bool.{and_parts, and_right, both_ways, or_left, or_right}
+use Rattle.std.proofs.Math.Bool.{and-true, and_self_left}
+use Rattle.std.proofs.lemmas.List.Folds.{list_any-append}
 use Rattle.gr_base.specs.declared.records.NumberedEdge.{NumberedEdge}
 use Rattle.gr_base.specs.Rising.{has}
 use Rattle.gr_base.specs.Places.{without_place}
@@ -15,9 +17,9 @@ use Rattle.gr_agree.specs.Truth.{Truth, true_indegree, true_outdegree, held, pla
 use Rattle.gr_agree.specs.TrueRound.{value_next, wakes_at, active_next, true_value, true_values, true_signals, true_calls}
 use Rattle.gr_agree.specs.Logs.{Sound}
 use Rattle.gr_lists.proofs.Tests.{by_test, by_option}
-use Rattle.gr_lists.proofs.Choices.{and_true_right, either_way, or_absorbs, or-exchange}
+use Rattle.gr_lists.proofs.Choices.{either_way, or_absorbs, or-exchange}
 use Rattle.gr_lists.proofs.Each.{Each-both, Each-weaker, Each-always, Each-has}
-use Rattle.gr_lists.proofs.Any.{list_any-append, list_any-none, list_any-agree, list_any-filter, list_any-and, list_any-or, list_any-flat_map, list_any-is, has-filter, eqb-sym}
+use Rattle.gr_lists.proofs.Any.{list_any-none, list_any-agree, list_any-filter, list_any-and, list_any-or, list_any-flat_map, list_any-is, has-filter, eqb-sym}
 use Rattle.gr_lists.proofs.Selections.{map-filter-map-filter}
 use Rattle.gr_law_bodies.proofs.Fold.{occurs}
 use Rattle.gr_law_bodies.proofs.Steady.{Steady}
@@ -84,10 +86,6 @@ module _ {V A : Type 0} (P : Program V A) (t : Truth V) (L : ProgramLaws P) (S :
   wake-own false true x = refl
   wake-own false false x = refl
 
-  twice : (a w : Bool) → (a && (a && w)) ≡ (a && w)
-  twice true w = refl
-  twice false w = refl
-
   -- which of the vertices that p holds woke
   pub woke-at : (v : ℕ) → hidden P t v ≡ false → has t.vertices v ≡ true → held t p v ≡ true → woke_by all_lines v ≡ wakes_at P t v
   unfolding all_lines true_values own_line
@@ -98,7 +96,7 @@ module _ {V A : Type 0} (P : Program V A) (t : Truth V) (L : ProgramLaws P) (S :
       let one : (q : ℕ) → woke_by (true_values P t q p) v ≡ ((t.master v == q) && wakes_at P t v) = (λ q.
       woke_by-filter_map (true_value P t q p) (true_value-named q) t.vertices v ∙ (ap (λ b. b && wake_of (true_value P t q p v)) m
       ∙ (ap (λ b. wake_of (if (t.due v && not (hidden P t v)) && ((t.master v == q) && b) then Some (record { vertex = v; value = value_next P t v; wake = wakes_at P t v }) else None)) h ∙ (wake-true (t.due v && not (hidden P t v)) (t.master v == q) _
-      ∙ ap (λ b. (t.master v == q) && b) ((λ i. (S.due_active v plain i && not (plain i)) && wakes_at P t v) ∙ (ap (λ b. b && wakes_at P t v) (and_true_right (t.state.active v)) ∙ twice (t.state.active v) _)))))) in
+      ∙ ap (λ b. (t.master v == q) && b) ((λ i. (S.due_active v plain i && not (plain i)) && wakes_at P t v) ∙ (ap (λ b. b && wakes_at P t v) (and-true (t.state.active v)) ∙ and_self_left (t.state.active v) _)))))) in
       list_any-append _ (filter_map (own_line P t p) t.vertices) _
       ∙ (ap (λ b. b || woke_by (flat_map (λ q. true_values P t q p) others) v) own
       ∙ (ap (λ b. ((t.master v == p) && wakes_at P t v) || b)

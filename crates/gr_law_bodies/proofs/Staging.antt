@@ -1,6 +1,8 @@
 -- What the stages Signal and End stage, where rows, edges and batches are those of the committed state.
 use Rattle.std.proofs.Common.{◌≡◌, ℕ, List, [], ◌∷◌, ◌++◌, Bool, true, false, not, ◌==◌, ◌&&◌, ◌||◌, find, flat_map, refl, sym, ap, ◌∙◌, Option, Some, None, if◌then◌else◌, eqb-true}
 use Rattle.std.specs.List.{AllByRecursion as Each, list_any}
+use Rattle.std.proofs.Math.Bool.{and-false}
+use Rattle.std.proofs.lemmas.List.Folds.{list_any-append}
 use Rattle.gr_base.specs.Rising.{has}
 use Rattle.gr_base.specs.Places.{without_place}
 use Rattle.gr_program.specs.declared.copy.VertexCopy.{VertexCopy}
@@ -15,7 +17,7 @@ use Rattle.gr_agree.specs.Logs.{Sound}
 use Rattle.gr_lists.proofs.Tests.{by_test}
 use Rattle.gr_lists.proofs.Choices.{either_way, or_else}
 use Rattle.gr_lists.proofs.Each.{Each-has, Each-always}
-use Rattle.gr_lists.proofs.Any.{list_any-append, list_any-agree, list_any-and, list_any-flat_map, list_any-is, has-filter}
+use Rattle.gr_lists.proofs.Any.{list_any-agree, list_any-and, list_any-flat_map, list_any-is, has-filter}
 use Rattle.gr_lists.proofs.Selections.{map-map-filter, find-append, find-filter_map}
 use Rattle.gr_law_bodies.proofs.Fold.{occurs}
 use Rattle.gr_law_bodies.proofs.Steady.{Steady}
@@ -40,15 +42,11 @@ module _ {V A : Type 0} (P : Program V A) (t : Truth V) (L : ProgramLaws P) (S :
   own-mastered v there m =
       list_any-append (λ x. x == v) (signal_body (all_lines P t L S N p ps mastered once placed) (rows_at P t p) (arcs_at t p) p) _
       ∙ (ap (λ b. b || has (flat_map (λ q. true_signals P t q p) others) v)
-      (ap (λ l. has l v) (signal-body_at P t L S N p ps mastered once placed p) ∙ (has-filter _ t.vertices v ∙ (ap (λ b. has t.vertices v && (b && list_any (λ a. (a.edge.dst == v) && ((place_of t a == p) && wakes_at P t a.edge.src)) t.edges)) m ∙ never (has t.vertices v))))
+      (ap (λ l. has l v) (signal-body_at P t L S N p ps mastered once placed p) ∙ (has-filter _ t.vertices v ∙ (ap (λ b. has t.vertices v && (b && list_any (λ a. (a.edge.dst == v) && ((place_of t a == p) && wakes_at P t a.edge.src)) t.edges)) m ∙ and-false (has t.vertices v))))
       ∙ (list_any-flat_map (λ x. x == v) (λ q. true_signals P t q p) others
-      ∙ (list_any-agree _ (λ q. false) others (Each-always _ (λ q. has-filter _ t.vertices v ∙ (ap (λ b. has t.vertices v && (b && list_any (λ a. (a.edge.dst == v) && ((place_of t a == q) && wakes_at P t a.edge.src)) t.edges)) m ∙ never (has t.vertices v))) others)
+      ∙ (list_any-agree _ (λ q. false) others (Each-always _ (λ q. has-filter _ t.vertices v ∙ (ap (λ b. has t.vertices v && (b && list_any (λ a. (a.edge.dst == v) && ((place_of t a == q) && wakes_at P t a.edge.src)) t.edges)) m ∙ and-false (has t.vertices v))) others)
       ∙ none others)))
     where
-      never : (b : Bool) → (b && false) ≡ false
-      never true = refl
-      never false = refl
-
       none : (qs : List ℕ) → list_any (λ q. false) qs ≡ false
       none [] = refl
       none (q ∷ qs) = none qs

@@ -2,8 +2,9 @@
 use Rattle.std.proofs.Common.{◌≡◌, ◌≢◌, ℕ, ◌+◌, ◌<◌, List, [], Bool, true, false, cond, not, ◌==◌, ◌&&◌, refl, sym, ap, ◌∙◌, subst, arith, Option, Some, None, eq-eqb, eqb-true, ne_eqb, inr, ◌⊎◌, ⊎_elim}
 use Rattle.std.specs.Prelude.{IsTrue, count_by, if◌then◌else◌}
 use Rattle.std.specs.List.{filter}
+use Rattle.std.proofs.Math.Bool.{and-true}
 use Rattle.std.proofs.lemmas.List.Elements.{All-nil}
-use Rattle.std.proofs.lemmas.Bool.{and_left, and_parts}
+use Rattle.std.proofs.lemmas.Bool.{and_left, and_parts, not-false}
 use Rattle.gr_base.specs.Rising.{has}
 use Rattle.gr_base.proofs.Rising.{rises-nil}
 use Rattle.gr_program.specs.Program.{Program, ProgramLaws}
@@ -27,7 +28,6 @@ use Rattle.gr_agree.specs.Hosts.{progress, HostHolds, HostOpen, AtEpoch, pending
 use Rattle.gr_agree.specs.Network.{BatchHolds, standing, is_shown}
 use Rattle.gr_agree.specs.Agree.{Agree}
 use Rattle.gr_lists.proofs.Tests.{by_test}
-use Rattle.gr_lists.proofs.Choices.{and_true_right}
 use Rattle.gr_lists.proofs.Each.{Each-weaker, Each-has}
 use Rattle.gr_lists.proofs.Any.{find-none_of, has-filter}
 use Rattle.gr_lists.proofs.Counts.{count_by-agree}
@@ -37,10 +37,6 @@ use Rattle.gr_law_round.proofs.Running.{no-reborn, parties-live, mastered}
 use Rattle.gr_law_commit.proofs.Next.{staged-next, arcs-next, entries-next, state-next, sound-next}
 use Rattle.gr_law_commit.proofs.Last.{done-at-last, not-done-before, done-or-running}
 use Rattle.gr_law_commit.proofs.Verdicts.{committing}
-
-pub not-false : (b : Bool) → not b ≡ false → b ≡ true
-not-false true x = refl
-not-false false x = absurd (let bad : true ≡ false = x in cc)
 
 -- a filter that keeps nothing refuses each element
 none-passes : (f : ℕ → Bool) (xs : List ℕ) → filter f xs ≡ [] → (v : ℕ) → has xs v ≡ true → f v ≡ false
@@ -106,7 +102,7 @@ module _ {V A : Type 0} (P : Program V A) (t : Truth V) (c : Cluster V A) (L : P
   -- where all have reported, the sum is the number of vertices that are active next
   due-total : c.coordinator.due ≡ count_by (state_after P (edge_list t) (c.coordinator.round + 1)).active t.vertices
   due-total = AG.open_work.reports.due (ap is_round running)
-      ∙ (count_by-agree _ (active_next P t) t.vertices (Each-has _ t.vertices (λ v m. ap (λ b. active_next P t v && b) (all (t.master v) (mastered P t c AG no-rebuild none-dead v m)) ∙ and_true_right (active_next P t v)))
+      ∙ (count_by-agree _ (active_next P t) t.vertices (Each-has _ t.vertices (λ v m. ap (λ b. active_next P t v && b) (all (t.master v) (mastered P t c AG no-rebuild none-dead v m)) ∙ and-true (active_next P t v)))
       ∙ ap (λ (s : State V). count_by s.active t.vertices) (state-next P t c.coordinator.round AG.committed.round.state))
 
   not-yet-last : c.coordinator.round < last_round P (edge_list t) t.vertices c.coordinator.limit

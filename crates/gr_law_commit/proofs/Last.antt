@@ -1,8 +1,7 @@
 -- The last round: where a round is committed, whether it is the last one is seen by the sum of the due counts and by the limit.
-use Rattle.std.proofs.Common.{◌≡◌, ◌≢◌, ℕ, ◌+◌, ◌<◌, List, [], ◌∷◌, Bool, true, false, cond, ◌||◌, ◌==◌, refl, sym, ap, ◌∙◌, arith, ◌⊎◌, ⊎_elim, eq-eqb, eqb-true, inl, inr}
+use Rattle.std.proofs.Common.{◌≡◌, ◌≢◌, ℕ, ◌+◌, ◌<◌, List, Bool, true, false, ◌||◌, ◌==◌, refl, sym, ap, ◌∙◌, arith, ◌⊎◌, ⊎_elim, eq-eqb, eqb-true, inl, inr}
 use Rattle.std.specs.Prelude.{count_by, if◌then◌else◌}
-use Rattle.std.specs.List.{list_any}
-use Rattle.std.proofs.lemmas.Bool.{both_ways, or_parts, cases_lt}
+use Rattle.std.proofs.lemmas.Bool.{both_ways, cases_lt}
 use Rattle.gr_program.specs.Program.{Program}
 use Rattle.gr_program.specs.Rounds.{IsLastRound, last_round, state_after, is_on}
 use Rattle.gr_program.proofs.LastRound.{last_round-least}
@@ -10,14 +9,7 @@ use Rattle.gr_view.specs.declared.coordinator.Mode.{Mode}
 use Rattle.gr_view.specs.declared.coordinator.Mode.TheVariants as mode
 use Rattle.gr_base.specs.declared.records.Edge.{Edge}
 use Rattle.gr_lists.proofs.Tests.{by_test}
-use Rattle.gr_lists.proofs.Counts.{some-counted, count_by-cons}
-
--- none is counted where none passes
-none-counted : {X : Type 0} (f : X → Bool) (xs : List X) → list_any f xs ≡ false → count_by f xs ≡ 0
-none-counted f [] h = refl
-none-counted f (x ∷ xs) h =
-    let k = or_parts (f x) (list_any f xs) h in let ih = none-counted f xs k.1 in let c = count_by-cons f x xs in
-    let one : cond {A = ℕ} (f x) 1 0 ≡ 0 = ap (λ b. cond b 1 0) k.0 in omega (arith, ih, c, one)
+use Rattle.gr_lists.proofs.Counts.{some-counted, count_by-none}
 
 module _ {V A : Type 0} (P : Program V A) (es : List Edge) (vs : List ℕ) (limit r : ℕ) (before : r < last_round P es vs limit)
     (due : ℕ) (is_due : due ≡ count_by (state_after P es (r + 1)).active vs) where
@@ -60,7 +52,7 @@ module _ {V A : Type 0} (P : Program V A) (es : List Edge) (vs : List ℕ) (limi
       (λ d. λ i. if d i || (r + 1 == limit) then mode.Done else mode.Running)
       (λ d. λ i. if d i || k i then mode.Done else mode.Running)))
       (λ off. let off' : is_on P es vs (r + 1) ≡ false = ap (is_on P es vs) here ∙ off in
-      let zero' : due ≡ 0 = is_due ∙ none-counted (state_after P es (r + 1)).active vs off' in
+      let zero' : due ≡ 0 = is_due ∙ count_by-none (state_after P es (r + 1)).active vs off' in
       ne (λ i. if eq-eqb due 0 zero' i || (r + 1 == limit) then mode.Done else mode.Running))
       is-last.ended))
       (cases_lt (r + 1) (last_round P es vs limit))

@@ -4,6 +4,7 @@ use Rattle.std.specs.List.{filter, list_any, fold}
 use Rattle.std.proofs.lemmas.Bool.{both_ways}
 use Rattle.gr_base.specs.Rising.{has, includes}
 use Rattle.gr_base.specs.Places.{with_place}
+use Rattle.gr_base.proofs.WithPlace.{has-with_place}
 use Rattle.gr_program.specs.Program.{Program}
 use Rattle.gr_log.specs.Directory.{directory_in}
 use Rattle.gr_rules.specs.Lost.{lost_of}
@@ -15,7 +16,6 @@ use Rattle.gr_lists.proofs.Tests.{by_test}
 use Rattle.gr_lists.proofs.Any.{list_any-flat_map, has-filter}
 use Rattle.gr_lists.proofs.Maps.{filter-map}
 use Rattle.gr_lists.proofs.Numbers.{any-has}
-use Rattle.gr_lists.proofs.Sets.{has-with_place}
 use Rattle.gr_law_epoch.proofs.Places.{has-included, dead-within, dead-not_retired}
 
 list_any-map : {X Y : Type 0} (f : Y → Bool) (g : X → Y) (xs : List X) → list_any f (map g xs) ≡ list_any (λ x. f (g x)) xs

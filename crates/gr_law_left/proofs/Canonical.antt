@@ -12,7 +12,7 @@ use Rattle.gr_cluster.specs.Todo.{todo, can_work}
 use Rattle.gr_cluster.specs.Canonical.{is_crash_unseen, canonical_decision, canonical_work, canonical_among, next_canonical}
 use Rattle.gr_lists.proofs.Tests.{by_test, by_option}
 use Rattle.gr_lists.proofs.Any.{find-none_of, find-one_of}
-use Rattle.gr_lists.proofs.Numbers.{has-range, range-within}
+use Rattle.gr_base.proofs.Ranges.{has-range, range-within}
 
 module _ {V A : Type 0} (c : Cluster V A) where
   -- no batch is in flight, and no place can work

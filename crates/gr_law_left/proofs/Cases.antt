@@ -1,5 +1,6 @@
 -- The cases of what a place does next, in every mode, each with what its tests said.
-use Rattle.std.proofs.Common.{◌≡◌, ℕ, ◌<◌, ◌≤◌, Bool, true, false, not, ◌&&◌, refl, sym, ap, ◌∙◌, subst, Option, Some, None, ltb-true, ltb-false, nat_lt}
+use Rattle.std.proofs.Common.{◌≡◌, ℕ, ◌<◌, ◌≤◌, true, false, not, ◌&&◌, refl, sym, ap, ◌∙◌, subst, Option, Some, None, ltb-true, ltb-false, nat_lt}
+use Rattle.std.proofs.Math.Bool.{and-false}
 use Rattle.std.proofs.lemmas.Bool.{and_parts, not-true}
 use Rattle.gr_batch.specs.declared.stage.Stage.{Stage}
 use Rattle.gr_batch.specs.Stages.{is_end}
@@ -68,8 +69,4 @@ module _ {V A : Type 0} (co : Coordinator) (p : ℕ) (h : Host V A) where
         (λ w. rw (w, n) (C.idle K o w n)))))))))
       where
         shut : h.computed ≡ true → (is_open co.mode && not h.computed) ≡ false
-        shut y = ap (λ b. is_open co.mode && not b) y ∙ both (is_open co.mode)
-          where
-            both : (b : Bool) → (b && false) ≡ false
-            both true = refl
-            both false = refl
+        shut y = ap (λ b. is_open co.mode && not b) y ∙ and-false (is_open co.mode)

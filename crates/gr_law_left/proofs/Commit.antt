@@ -1,5 +1,5 @@
 -- The barrier of an undisturbed cluster: it decides nothing, or commits a round.
-use Rattle.std.proofs.Common.{◌≡◌, ℕ, zero, suc, ◌+◌, ◌*◌, ◌<◌, ◌≤◌, List, [], ◌∷◌, true, false, not, refl, sym, ap, ◌∙◌, arith, inl, inr, length, get_or, ⊎_elim}
+use Rattle.std.proofs.Common.{◌≡◌, ℕ, zero, suc, ◌+◌, ◌*◌, ◌<◌, ◌≤◌, List, [], ◌∷◌, true, false, refl, sym, ap, ◌∙◌, arith, inl, inr, length, get_or, ⊎_elim}
 use Rattle.std.specs.Prelude.{◌⊎◌}
 use Rattle.std.proofs.Math.Nat.{mul-le-mul_left}
 use Rattle.std.proofs.lemmas.Bool.{cases_lt}
@@ -17,8 +17,7 @@ use Rattle.gr_cluster.specs.Left.{left}
 use Rattle.gr_agree.specs.Truth.{Truth}
 use Rattle.gr_agree.specs.Agree.{Agree}
 use Rattle.gr_lists.proofs.Tests.{by_test, by_option}
-use Rattle.gr_lists.proofs.Any.{filter-none, list_any-none}
-use Rattle.gr_lists.proofs.Each.{Each-has}
+use Rattle.gr_law_runs.proofs.Plain.{none-down}
 use Rattle.gr_law_left.specs.ToGo.{most_left}
 use Rattle.gr_law_left.proofs.Places.{left_of_parties, left-over, left-goes_on}
 use Rattle.gr_law_left.proofs.Bounded.{parties-bounded}
@@ -57,7 +56,7 @@ module _ {V A : Type 0} (P : Program V A) (t : Truth V) (c : Cluster V A) (AG : 
     nobody-down : down_among c (looked_at c.coordinator) ≡ []
     nobody-down =
         let f : is_failed c.coordinator.mode ≡ false = ap is_failed running in
-        rw f (filter-none (λ p. not (is_up c p)) (parties c.coordinator) (list_any-none _ _ (Each-has _ _ (λ p m. ap not (all_up p m)))))
+        rw f (none-down c (parties c.coordinator) all_up)
 
     pub barred-commits : ((barred c).0 ≡ c) ⊎ ((barred c).0 ≡ committed_round)
     unfolding barred at_barrier

@@ -25,10 +25,10 @@ use Rattle.gr_agree.specs.Network.{is_shown, shows_sent, standing}
 use Rattle.gr_agree.specs.Agree.{Agree}
 use Rattle.gr_lists.proofs.Tests.{by_test, by_option}
 use Rattle.gr_lists.proofs.Any.{find-any, find-one_of, has-filter}
+use Rattle.gr_lists.proofs.Counts.{count_by-none}
 use Rattle.gr_lists.proofs.Each.{Each-always}
 use Rattle.gr_law_round.proofs.AtPlace.{place-le}
 use Rattle.gr_law_network.proofs.Kept.{up-party}
-use Rattle.gr_law_left.proofs.Sums.{count_by-none}
 use Rattle.gr_law_left.proofs.Cases.{IsCurrent, by-todo}
 use Rattle.gr_law_left.proofs.Work.{at-epoch, current-epoch}
 

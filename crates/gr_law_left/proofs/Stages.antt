@@ -10,7 +10,7 @@ use Rattle.gr_batch.specs.declared.stage.Stage.TheVariants as stage
 use Rattle.gr_batch.specs.Stages.{place_in, is_stage, is_end, stage_after}
 use Rattle.gr_rules.specs.Exchange.{Exchange, begun}
 use Rattle.gr_lists.proofs.Tests.{by_test}
-use Rattle.gr_lists.proofs.Sets.{has-with_place}
+use Rattle.gr_base.proofs.WithPlace.{has-with_place}
 use Rattle.gr_law_round.proofs.Passing.{same-code}
 use Rattle.gr_law_left.proofs.Sums.{sum_by-falls, count_by-all}
 

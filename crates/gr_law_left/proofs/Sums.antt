@@ -1,9 +1,9 @@
 -- Sums whose terms fall, and counts of the members of a list.
-use Rattle.std.proofs.Common.{◌≡◌, ℕ, ◌+◌, ◌*◌, ◌≤◌, List, [], ◌∷◌, Bool, true, false, cond, not, ◌==◌, refl, ap, arith, length, eq-eqb}
+use Rattle.std.proofs.Common.{◌≡◌, ℕ, ◌+◌, ◌*◌, ◌≤◌, List, [], ◌∷◌, Bool, true, false, cond, not, ◌==◌, refl, arith, length, eq-eqb}
 use Rattle.std.specs.Prelude.{sum_by, count_by}
 use Rattle.std.specs.List.{list_any}
 use Rattle.std.proofs.lemmas.List.Sums.{sum_by-cons, sum_by-le-sum_by, length-filter}
-use Rattle.std.proofs.lemmas.Bool.{or_left, or_right, or_parts}
+use Rattle.std.proofs.lemmas.Bool.{or_left, or_right}
 use Rattle.gr_base.specs.Rising.{has}
 use Rattle.gr_base.specs.Places.{without_place}
 use Rattle.gr_lists.proofs.Tests.{by_test}
@@ -21,13 +21,6 @@ module _ {X : Type 0} (f g : X → ℕ) (test : X → Bool) (d : ℕ) (no_more :
 pub count_by-all : {X : Type 0} (xs : List X) → count_by (λ _. true) xs ≡ length xs
 count_by-all [] = refl
 count_by-all {X} (x ∷ xs) = let a = sum_by-cons (λ (y : X). cond {A = ℕ} true 1 0) x xs in let ih = count_by-all xs in omega (arith, a, ih)
-
--- no element passes
-pub count_by-none : {X : Type 0} (f : X → Bool) (xs : List X) → list_any f xs ≡ false → count_by f xs ≡ 0
-count_by-none f [] h = refl
-count_by-none f (x ∷ xs) h =
-    let k = or_parts (f x) (list_any f xs) h in let a = sum_by-cons (λ y. cond {A = ℕ} (f y) 1 0) x xs in
-    let gone : cond {A = ℕ} (f x) 1 0 ≡ 0 = ap (λ b. cond b 1 0) k.0 in let ih = count_by-none f xs k.1 in omega (arith, a, gone, ih)
 
 -- each term is bounded at the members of a list
 pub sum_by-bounded : (f : ℕ → ℕ) (m : ℕ) (xs : List ℕ) → ((x : ℕ) → has xs x ≡ true → f x ≤ m) → sum_by f xs ≤ length xs * m

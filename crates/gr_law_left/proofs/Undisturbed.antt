@@ -3,7 +3,6 @@ use Rattle.std.proofs.Common.{◌≡◌, ℕ, ◌-◌, ◌*◌, ◌<◌, ◌≤�
 use Rattle.std.specs.Prelude.{IsTrue}
 use Rattle.std.proofs.lemmas.Bool.{both_ways}
 use Rattle.gr_program.specs.Program.{Program, ProgramLaws}
-use Rattle.gr_program.proofs.LastRound.{last_round-least}
 use Rattle.gr_batch.specs.declared.batch.Batch.{Batch}
 use Rattle.gr_sched.specs.declared.event.Event.{Event}
 use Rattle.gr_sched.specs.declared.event.Event.TheVariants as event
@@ -15,9 +14,10 @@ use Rattle.gr_cluster.specs.Step.{taken_step, step}
 use Rattle.gr_cluster.specs.Network.{delivered}
 use Rattle.gr_cluster.specs.Canonical.{next_canonical}
 use Rattle.gr_cluster.specs.Left.{left}
-use Rattle.gr_agree.specs.Truth.{Truth, edge_list}
+use Rattle.gr_agree.specs.Truth.{Truth}
 use Rattle.gr_lists.proofs.Tests.{by_test}
 use Rattle.gr_law_runs.specs.Undisturbed.{is_plain, is_undisturbed, Undisturbed}
+use Rattle.gr_law_runs.proofs.Plain.{mode-running, round-below}
 use Rattle.gr_law_runs.proofs.Finish.{none-over}
 use Rattle.gr_law_left.specs.ToGo.{most_left, to_go, GoesToTheEnd}
 use Rattle.gr_law_left.proofs.Canonical.{by-canonical, canonical-goes_on}
@@ -27,14 +27,6 @@ use Rattle.gr_law_left.proofs.Losing.{removed-shorter}
 use Rattle.gr_law_left.proofs.Counts.{step-counts}
 use Rattle.gr_law_left.proofs.Less.{step-over, step-taken, step-keeps, canonical-leaves-less}
 use Rattle.gr_law_left.proofs.Commit.{committed_round, new-epoch-bounded, barred-commits}
-
-mode-running : (m : Mode) → is_undisturbed m ≡ true → is_over m ≡ false → m ≡ mode.Running
-mode-running mode.Running u o = refl
-mode-running mode.Done u o = absurd (let bad : true ≡ false = o in cc)
-mode-running mode.Failed u o = absurd (let bad : false ≡ true = u in cc)
-mode-running mode.Recovering u o = absurd (let bad : false ≡ true = u in cc)
-mode-running mode.Repairing u o = absurd (let bad : false ≡ true = u in cc)
-mode-running mode.Lost u o = absurd (let bad : false ≡ true = u in cc)
 
 mode-done : (m : Mode) → is_undisturbed m ≡ true → is_over m ≡ true → m ≡ mode.Done
 mode-done mode.Running u o = absurd (let bad : false ≡ true = o in cc)
@@ -53,12 +45,6 @@ module _ {V A : Type 0} (P : Program V A) (L : ProgramLaws P) (t : Truth V) (c :
       (λ o. ap is_failed (mode-done c.coordinator.mode U.mode o))
       (λ o. ap is_failed (running o))
 
-  -- the limit of rounds is not reached before the end
-  round-below : is_over c.coordinator.mode ≡ false → c.coordinator.round < c.coordinator.limit
-  round-below o =
-      let lt = U.agrees.open_work.end.not_done (λ d. let bad : true ≡ false = sym (ap is_over d) ∙ o in cc) in
-      let within = (last_round-least P (edge_list t) t.vertices c.coordinator.limit).within in omega (arith, lt, within)
-
   -- what an event makes of the distance from the end: it commits a round, or leaves the epoch and the round
   pub record IsPlainStep (d : Cluster V A) : Type 0 where
     pub kept : (d.coordinator.epoch ≡ c.coordinator.epoch → left d ≤ left c) → to_go d ≤ to_go c
@@ -73,7 +59,7 @@ module _ {V A : Type 0} (P : Program V A) (L : ProgramLaws P) (t : Truth V) (c :
 
   commit-nearer : (o : is_over c.coordinator.mode ≡ false) → to_go (committed_round P t c U.agrees (running o)) < to_go c
   commit-nearer o =
-      let after = new-epoch-bounded P t c U.agrees (running o) in let here = left-goes_on c o in let lt = round-below o in omega (arith, after, here, lt)
+      let after = new-epoch-bounded P t c U.agrees (running o) in let here = left-goes_on c o in let lt = round-below P t c U.agrees o in omega (arith, after, here, lt)
 
   -- the cluster after the commit of a round
   commit-step : (d : Cluster V A) → to_go d < to_go c → IsPlainStep d

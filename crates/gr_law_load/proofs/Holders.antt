@@ -13,17 +13,14 @@ use Rattle.gr_cut.specs.Cut.{home, is_high, place_at_load}
 use Rattle.gr_copies.specs.Holders.{has_edge_of, needed_holders, more_holders, first_holders}
 use Rattle.gr_lists.proofs.Tests.{by_test}
 use Rattle.gr_lists.proofs.Any.{has-filter}
-use Rattle.gr_lists.proofs.Numbers.{range-rises}
+use Rattle.gr_base.proofs.Ranges.{range-rises}
 use Rattle.gr_law_load.proofs.Ranges.{range-below, has-below, each-itself}
 
 module _ (places theta losses : ℕ) (es : List Edge) (some : 1 ≤ places) (few : places ≤ 64) where
-  pub home-below : (v : ℕ) → home places v < places
-  home-below v = mod-lt v some
-
   pub place-below : (e : Edge) → place_at_load places theta es e < places
   place-below e = by_test (is_high theta (indegree es e.dst))
-      (λ k. rw k (home-below e.src))
-      (λ k. rw k (home-below e.dst))
+      (λ k. rw k (mod-lt e.src some))
+      (λ k. rw k (mod-lt e.dst some))
 
   pub holders-places : (v : ℕ) → IsPlaces (first_holders places theta losses es v)
   unfolding first_holders
@@ -47,7 +44,7 @@ module _ (places theta losses : ℕ) (es : List Edge) (some : 1 ≤ places) (few
       has-filter (λ p. has (needed_holders places theta losses es v) p || has (more_holders places theta losses es v) p) (below places) p ∙ and_from _ _ inside (or_left _ _ needed)
 
   pub home-holds : (v : ℕ) → has (first_holders places theta losses es v) (home places v) ≡ true
-  home-holds v = needed-holds v (home places v) (home-below v) (or_left _ _ (eq-eqb (home places v) (home places v) refl))
+  home-holds v = needed-holds v (home places v) (mod-lt v some) (or_left _ _ (eq-eqb (home places v) (home places v) refl))
 
   -- the place of each edge holds both of its ends
   pub ends-held : Each (λ e. (has (first_holders places theta losses es e.src) (place_at_load places theta es e) ≡ true) × (has (first_holders places theta losses es e.dst) (place_at_load places theta es e) ≡ true)) es

@@ -48,7 +48,7 @@ use Rattle.gr_agree.specs.Agree.{Agree}
 use Rattle.gr_lists.proofs.Counts.{count_by-cons}
 use Rattle.gr_lists.proofs.Items.{items-rising}
 use Rattle.gr_lists.proofs.Maps.{map-rises, rises-map}
-use Rattle.gr_lists.proofs.Numbers.{range-rises}
+use Rattle.gr_base.proofs.Ranges.{range-rises}
 use Rattle.gr_lists.proofs.Each.{Each-weaker}
 use Rattle.gr_law_bodies.proofs.Values.{rows-staged}
 use Rattle.gr_law_logs.proofs.Logged.{graph-in}

@@ -17,7 +17,8 @@ use Rattle.gr_lists.proofs.Each.{Each-both, Each-has}
 use Rattle.gr_lists.proofs.Any.{has-filter, list_any-is}
 use Rattle.gr_lists.proofs.Items.{items-rising, parts-whole}
 use Rattle.gr_lists.proofs.Maps.{Each-map, filter-map, map-rises, rises-map, filter_map-flat_map}
-use Rattle.gr_lists.proofs.Numbers.{any-has, has-range, range-within, range-rises}
+use Rattle.gr_base.proofs.Ranges.{has-range, range-within, range-rises}
+use Rattle.gr_lists.proofs.Numbers.{any-has}
 
 module _ {V A : Type 0} (P : Program V A) (t : Truth V) (c : Cluster V A) (AG : Agree P t c) where
   -- the number by which each list rises

@@ -1,7 +1,8 @@
 -- A place goes down: what holds of the places that are up still holds.
-use Rattle.std.proofs.Common.{◌≡◌, ◌≢◌, ◌<◌, ◌≤◌, ℕ, Bool, true, false, cond, not, ◌==◌, ◌&&◌, refl, sym, ap, ◌∙◌, subst, arith, Option, Some, None, length, eq-eqb, ne_eqb}
+use Rattle.std.proofs.Common.{◌≡◌, ◌≢◌, ◌<◌, ◌≤◌, ℕ, true, false, cond, not, ◌==◌, ◌&&◌, refl, sym, ap, ◌∙◌, subst, arith, Option, Some, None, length, eq-eqb, ne_eqb}
 use Rattle.std.specs.Prelude.{IsTrue, is_some, count_by}
 use Rattle.std.specs.List.{AllByRecursion as Each}
+use Rattle.std.proofs.Math.Bool.{and-true}
 use Rattle.std.proofs.lemmas.List.{length-set, get_or-set_same, get_or-set_other}
 use Rattle.std.proofs.lemmas.Bool.{and_right}
 use Rattle.gr_program.specs.Program.{Program}
@@ -61,11 +62,7 @@ module _ {V A : Type 0} (P : Program V A) (t : Truth V) (c : Cluster V A) (AG : 
   pub up-after : (q : ℕ) → is_up d q ≡ is_up c q && not (q == p)
   up-after q = by_same q p
       (λ e. (λ i. is_some (host d (e i))) ∙ (ap is_some down ∙ sym (ap (λ b. is_up c q && not b) (eq-eqb q p e) ∙ and_right (is_up c q) false refl)))
-      (λ ne. ap is_some (there q ne) ∙ sym (ap (λ b. is_up c q && not b) (ne_eqb q p ne) ∙ plain (is_up c q)))
-    where
-      plain : (b : Bool) → (b && true) ≡ b
-      plain true = refl
-      plain false = refl
+      (λ ne. ap is_some (there q ne) ∙ sym (ap (λ b. is_up c q && not b) (ne_eqb q p ne) ∙ and-true (is_up c q)))
 
   -- no more is up than before
   up-before : (q : ℕ) → is_up c q ≡ false → is_up d q ≡ false

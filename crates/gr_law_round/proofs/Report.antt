@@ -1,6 +1,7 @@
 -- The report of a place in a round keeps the invariant.
 use Rattle.std.proofs.Common.{◌≡◌, ℕ, ◌+◌, ◌<◌, ◌≤◌, List, Bool, true, false, cond, ◌==◌, ◌&&◌, ◌||◌, refl, sym, ap, ◌∙◌, arith, Some, eq-eqb, eqb-true, ne_eqb, inl}
 use Rattle.std.specs.Prelude.{IsTrue, count_by}
+use Rattle.std.proofs.Math.Bool.{and-true, or-false}
 use Rattle.std.proofs.lemmas.Bool.{and_left, and_right, or_right, both_ways}
 use Rattle.gr_base.specs.Rising.{has}
 use Rattle.gr_base.specs.Places.{with_place}
@@ -19,11 +20,10 @@ use Rattle.gr_agree.specs.TrueRound.{active_next, copy_staged, staged}
 use Rattle.gr_agree.specs.Hosts.{progress}
 use Rattle.gr_agree.specs.Agree.{Agree}
 use Rattle.gr_lists.proofs.Tests.{by_test, by_same}
-use Rattle.gr_lists.proofs.Choices.{or_false}
 use Rattle.gr_lists.proofs.Any.{eqb-sym}
 use Rattle.gr_lists.proofs.Each.{Each-always, Each-has}
 use Rattle.gr_lists.proofs.Counts.{count_by-or, count_by-map-filter}
-use Rattle.gr_lists.proofs.Sets.{has-with_place, IsPlaces-with}
+use Rattle.gr_base.proofs.WithPlace.{has-with_place, IsPlaces-with}
 use Rattle.gr_law_bodies.proofs.Rows.{held-here}
 use Rattle.gr_law_network.specs.Law.{IsKept}
 use Rattle.gr_law_network.proofs.Frame.{within, host-with_host, host-with_host-other}
@@ -79,12 +79,8 @@ module _ {V A : Type 0} (P : Program V A) (t : Truth V) (c : Cluster V A) (L : P
   ready-after : (q : ℕ) (k : Host V A) → host (with_host p (Some after) c) q ≡ Some k → IsTrue (has (parties c.coordinator) q) → has ready q ≡ ((k.epoch == c.coordinator.epoch) && k.reported)
   ready-after q k is y = has-with_place c.coordinator.ready p q ∙ by_same q p
       (λ e. let same : Some after ≡ Some k = sym (host-with_host c p h after at) ∙ (ap (host (with_host p (Some after) c)) (sym e) ∙ is) in let same' : after ≡ k = cc in
-      or_right (has c.coordinator.ready q) _ (eq-eqb p q (sym e)) ∙ (sym (eq-eqb _ _ (is-now P t c L AG no_rebuild running p h at le le')) ∙ (plain (h.epoch == c.coordinator.epoch) ∙ ap (λ (x : Host V A). (x.epoch == c.coordinator.epoch) && x.reported) same')))
-      (λ ne. ap (λ b. has c.coordinator.ready q || b) (ne_eqb p q (λ x. ne (sym x))) ∙ (or_false (has c.coordinator.ready q) ∙ AG.open_work.reports.ready q k (sym (host-with_host-other c p h after at q ne) ∙ is) y))
-    where
-      plain : (b : Bool) → b ≡ (b && true)
-      plain true = refl
-      plain false = refl
+      or_right (has c.coordinator.ready q) _ (eq-eqb p q (sym e)) ∙ (sym (eq-eqb _ _ (is-now P t c L AG no_rebuild running p h at le le')) ∙ (sym (and-true (h.epoch == c.coordinator.epoch)) ∙ ap (λ (x : Host V A). (x.epoch == c.coordinator.epoch) && x.reported) same')))
+      (λ ne. ap (λ b. has c.coordinator.ready q || b) (ne_eqb p q (λ x. ne (sym x))) ∙ (or-false (has c.coordinator.ready q) ∙ AG.open_work.reports.ready q k (sym (host-with_host-other c p h after at q ne) ∙ is) y))
 
   inside : p < 64
   inside = let w = within c p h after at in let S = AG.committed.shaped in let a = S.hosts in let f = S.few in omega (arith, w, a, f)

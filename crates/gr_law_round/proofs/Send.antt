@@ -1,7 +1,7 @@
 -- Sending a batch of a round keeps the invariant.
 use Rattle.std.proofs.Common.{◌≡◌, ◌≢◌, ℕ, ◌+◌, ◌≤◌, List, [], ◌∷◌, ◌++◌, Bool, true, false, cond, not, ◌==◌, ◌&&◌, ◌||◌, nat_lt, refl, sym, ap, ◌∙◌, subst, arith, Option, Some, None, eq-eqb, inl, le_refl, le-ltb}
 use Rattle.std.specs.Prelude.{IsTrue}
-use Rattle.std.proofs.lemmas.Bool.{and_left, and_right, and_parts, and_from, or_right, or_from, not-true, both_ways}
+use Rattle.std.proofs.lemmas.Bool.{and_left, and_right, and_parts, and_from, or_right, or_from, not-true, not-false, both_ways}
 use Rattle.gr_base.specs.Rising.{has}
 use Rattle.gr_base.specs.Places.{with_place}
 use Rattle.gr_program.specs.Program.{Program, ProgramLaws}
@@ -29,7 +29,7 @@ use Rattle.gr_agree.specs.Network.{BatchHolds, is_shown}
 use Rattle.gr_agree.specs.Agree.{Agree}
 use Rattle.gr_lists.proofs.Tests.{by_test}
 use Rattle.gr_lists.proofs.Any.{find-none_of, find-one_of, has-filter}
-use Rattle.gr_lists.proofs.Sets.{has-with_place}
+use Rattle.gr_base.proofs.WithPlace.{has-with_place}
 use Rattle.gr_law_bodies.proofs.Fold.{occurs-once}
 use Rattle.gr_law_network.specs.Law.{IsKept}
 use Rattle.gr_law_network.proofs.Frame.{host-with_host, host-with_host-other}
@@ -166,11 +166,7 @@ module _ {V A : Type 0} (P : Program V A) (t : Truth V) (c : Cluster V A) (L : P
 
   -- the last batch of the stage
   all-sent : (q : ℕ) → unsent (others c.coordinator p) more_sent ≡ None → has (parties c.coordinator) q ≡ true → p ≢ q → (has h.sent q || (r == q)) ≡ true
-  all-sent q none m ne = sym (has-with_place h.sent r q) ∙ not-false' _ (find-none_of (λ x. not (has more_sent x)) (others c.coordinator p) q none (other-party (parties c.coordinator) p q m ne))
-    where
-      not-false' : (x : Bool) → not x ≡ false → x ≡ true
-      not-false' true y = refl
-      not-false' false y = absurd (let bad : true ≡ false = y in cc)
+  all-sent q none m ne = sym (has-with_place h.sent r q) ∙ not-false _ (find-none_of (λ x. not (has more_sent x)) (others c.coordinator p) q none (other-party (parties c.coordinator) p q m ne))
 
   gone-shows : (q : ℕ) (s : Stage) → guard s ≡ true → shows_in gone q s ≡ (nat_lt (place_in s) (place_in h.stage) || is_stage s h.stage)
   gone-shows q s g = let k = guarded s g in

@@ -1,7 +1,7 @@
 -- The cases of what a place does next where no rebuild is open, each with what its tests said.
-use Rattle.std.proofs.Common.{◌≡◌, ℕ, ◌<◌, ◌≤◌, List, Bool, true, false, not, ◌&&◌, refl, sym, ap, subst, Option, Some, None, ltb-true, ltb-false, nat_lt}
+use Rattle.std.proofs.Common.{◌≡◌, ℕ, ◌<◌, ◌≤◌, List, true, false, not, ◌&&◌, sym, ap, subst, Option, Some, None, ltb-true, ltb-false, nat_lt}
 use Rattle.std.specs.List.{list_any}
-use Rattle.std.proofs.lemmas.Bool.{and_parts, and_left, not-true, and_from, both_ways, true_from_ne_false}
+use Rattle.std.proofs.lemmas.Bool.{and_parts, and_left, and_right, not-true, not-false, and_from, both_ways, true_from_ne_false}
 use Rattle.gr_batch.specs.declared.batch.Batch.{Batch}
 use Rattle.gr_batch.specs.declared.stage.Stage.{Stage}
 use Rattle.gr_batch.specs.Stages.{is_end}
@@ -19,11 +19,7 @@ use Rattle.gr_lists.proofs.Any.{find-none_of}
 
 -- nothing that is needed is missing
 needed-there : {V A : Type 0} (inbox : List (Batch V A)) (e : ℕ) (others : List ℕ) (s : Stage) → missing inbox e s others ≡ None → HasNeeded others e inbox (Some s)
-needed-there inbox e others s none = λ q m. there _ (find-none_of (λ r. not (list_any (is_of r e s) inbox)) others q none m)
-  where
-    there : (b : Bool) → not b ≡ false → b ≡ true
-    there true x = refl
-    there false x = absurd (let bad : true ≡ false = x in cc)
+needed-there inbox e others s none = λ q m. not-false _ (find-none_of (λ r. not (list_any (is_of r e s) inbox)) others q none m)
 
 module _ {V A : Type 0} (co : Coordinator) (p : ℕ) (h : Host V A) (no_rebuild : is_rebuild co.mode ≡ false) where
   -- computing a stage, or waiting for what it needs
@@ -57,11 +53,7 @@ module _ {V A : Type 0} (co : Coordinator) (p : ℕ) (h : Host V A) (no_rebuild 
       (λ e. let k = and_parts h.computed (not (is_end h.stage)) e in rw e (by_option (unsent (others co p) h.sent)
       (λ m. rw m rest)
       (λ q m. rw m (send q opened i n k.0 (not-true (is_end h.stage) k.1) m))))
-      (λ e4. let no_append : (h.computed && (is_rebuild co.mode && not h.appended)) ≡ false = and-false h.computed _ (and_left _ _ no_rebuild) in rw (e4, no_append) (by_test (h.computed && not h.reported)
+      (λ e4. let no_append : (h.computed && (is_rebuild co.mode && not h.appended)) ≡ false = and_right h.computed _ (and_left _ _ no_rebuild) in rw (e4, no_append) (by_test (h.computed && not h.reported)
       (λ e. let k = and_parts h.computed (not h.reported) e in
       rw e (report opened i n k.0 (not-true h.reported k.1) (true_from_ne_false (is_end h.stage) (λ no. both_ways _ e4 (and_from h.computed (not (is_end h.stage)) k.0 (ap not no))))))
       (λ e. rw e rest)))))))))))
-    where
-      and-false : (a b : Bool) → b ≡ false → (a && b) ≡ false
-      and-false true b e = e
-      and-false false b e = refl

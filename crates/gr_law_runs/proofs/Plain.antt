@@ -1,12 +1,13 @@
 -- What an undisturbed cluster keeps: it agrees with a committed state of the graph, and every place is up and live.
-use Rattle.std.proofs.Common.{◌≡◌, ℕ, ◌+◌, List, [], ◌∷◌, Bool, true, false, not, ◌==◌, ◌||◌, nat_lt, filter, refl, sym, ap, ◌∙◌, subst, Option, Some, None, eq-eqb, slice_get, if◌then◌else◌}
+use Rattle.std.proofs.Common.{◌≡◌, ℕ, ◌+◌, ◌<◌, List, [], ◌∷◌, Bool, true, false, not, ◌==◌, ◌||◌, nat_lt, refl, sym, ap, ◌∙◌, subst, arith, Option, Some, None, slice_get, if◌then◌else◌}
 use Rattle.std.specs.Prelude.{IsTrue, is_some, is_none, option_map}
 use Rattle.std.specs.List.{AllByRecursion as Each}
-use Rattle.std.proofs.lemmas.Bool.{or_left, or_right}
+use Rattle.std.proofs.lemmas.Bool.{not-false}
 use Rattle.gr_base.specs.declared.records.Edge.{Edge}
 use Rattle.gr_base.specs.Rising.{has, union}
 use Rattle.gr_log.specs.Log.{committed_log}
 use Rattle.gr_program.specs.Program.{Program, ProgramLaws}
+use Rattle.gr_program.proofs.LastRound.{last_round-least}
 use Rattle.gr_batch.specs.declared.batch.Batch.{Batch}
 use Rattle.gr_sched.specs.declared.event.Event.{Event}
 use Rattle.gr_sched.specs.declared.event.Event.TheVariants as event
@@ -29,11 +30,12 @@ use Rattle.gr_agree.specs.Agree.{Agree}
 use Rattle.gr_law_network.specs.Law.{IsKept}
 use Rattle.gr_law_network.proofs.Kept.{deliver-kept, drop-kept}
 use Rattle.gr_law_round.proofs.Work.{work-kept}
-use Rattle.gr_law_commit.proofs.Commit.{not-false, commit-kept}
+use Rattle.gr_law_commit.proofs.Commit.{commit-kept}
 use Rattle.gr_law_runs.specs.Law.{after_events}
 use Rattle.gr_law_runs.specs.Undisturbed.{is_plain, is_undisturbed, Undisturbed, UndisturbedIn}
 use Rattle.gr_lists.proofs.Tests.{by_test}
-use Rattle.gr_lists.proofs.Any.{find-none_of}
+use Rattle.gr_lists.proofs.Any.{find-none_of, filter-none, list_any-none}
+use Rattle.gr_lists.proofs.Each.{Each-has}
 
 -- what of the coordinator no undisturbed event changes but a commit
 pub record IsSameCoordinator (c d : Coordinator) : Type 0 where
@@ -129,10 +131,23 @@ some-of : {X Y : Type 0} (f : X → Y) (o : Option X) → is_some (option_map f 
 some-of f None = refl
 some-of f (Some x) = refl
 
-filter-none : (f : ℕ → Bool) (xs : List ℕ) → ((p : ℕ) → has xs p ≡ true → f p ≡ false) → filter f xs ≡ []
-filter-none f [] h = refl
-filter-none f (x ∷ xs) h =
-    let off : f x ≡ false = h x (or_left _ _ (eq-eqb x x refl)) in rw off (filter-none f xs (λ p m. h p (or_right _ _ m)))
+pub mode-running : (m : Mode) → is_undisturbed m ≡ true → is_over m ≡ false → m ≡ mode.Running
+mode-running mode.Running u o = refl
+mode-running mode.Done u o = absurd (let bad : true ≡ false = o in cc)
+mode-running mode.Failed u o = absurd (let bad : false ≡ true = u in cc)
+mode-running mode.Recovering u o = absurd (let bad : false ≡ true = u in cc)
+mode-running mode.Repairing u o = absurd (let bad : false ≡ true = u in cc)
+mode-running mode.Lost u o = absurd (let bad : false ≡ true = u in cc)
+
+-- where all of some places are up, none of them is seen as crashed
+pub none-down : {V A : Type 0} (c : Cluster V A) (ps : List ℕ) → ((p : ℕ) → has ps p ≡ true → is_up c p ≡ true) → down_among c ps ≡ []
+none-down c ps up = filter-none (λ p. not (is_up c p)) ps (list_any-none _ ps (Each-has _ ps (λ p m. ap not (up p m))))
+
+-- until the run is over the committed rounds are below the limit
+pub round-below : {V A : Type 0} (P : Program V A) (t : Truth V) (c : Cluster V A) → Agree P t c → is_over c.coordinator.mode ≡ false → c.coordinator.round < c.coordinator.limit
+round-below P t c AG o =
+    let lt = AG.open_work.end.not_done (λ d. let bad : true ≡ false = sym (ap is_over d) ∙ o in cc) in
+    let within = (last_round-least P (edge_list t) t.vertices c.coordinator.limit).within in omega (arith, lt, within)
 
 module _ {V A : Type 0} (P : Program V A) (L : ProgramLaws P) (es : List Edge) (vs : List ℕ) (limit : ℕ) where
   module _ (c : Cluster V A) (U : IsUndisturbed P es vs limit c) where
@@ -152,21 +167,13 @@ module _ {V A : Type 0} (P : Program V A) (L : ProgramLaws P) (es : List Edge) (
 
     -- nobody is seen as crashed
     pub nobody-down : down_among c (parties c.coordinator) ≡ []
-    nobody-down = filter-none (λ p. not (is_up c p)) (parties c.coordinator) (λ p m. ap not (U.all_up p m))
+    nobody-down = none-down c (parties c.coordinator) U.all_up
 
     pub looks-at-parties : looked_at c.coordinator ≡ parties c.coordinator
     looks-at-parties = ap (λ b. if b then c.coordinator.live else parties c.coordinator) (no-rebuild c.coordinator.mode U.mode).1
 
     running : is_over c.coordinator.mode ≡ false → c.coordinator.mode ≡ mode.Running
-    running o = of c.coordinator.mode U.mode o
-      where
-        of : (m : Mode) → is_undisturbed m ≡ true → is_over m ≡ false → m ≡ mode.Running
-        of mode.Running u o = refl
-        of mode.Done u o = absurd (let bad : true ≡ false = o in cc)
-        of mode.Failed u o = absurd (let bad : false ≡ true = u in cc)
-        of mode.Recovering u o = absurd (let bad : false ≡ true = u in cc)
-        of mode.Repairing u o = absurd (let bad : false ≡ true = u in cc)
-        of mode.Lost u o = absurd (let bad : false ≡ true = u in cc)
+    running o = mode-running c.coordinator.mode U.mode o
 
     -- the cluster after the commit of a round
     abbrev next_cluster : Cluster V A

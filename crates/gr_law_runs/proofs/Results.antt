@@ -2,6 +2,7 @@
 use Rattle.std.proofs.Common.{◌≡◌, ◌<◌, ℕ, List, [], ◌∷◌, Bool, true, false, not, ◌==◌, ◌&&◌, ◌||◌, nat_lt, map, filter, filter_map, refl, sym, ap, ◌∙◌, arith, Option, Some, None, eq-eqb, eqb-true, length, lt-ltb, ltb-true, if◌then◌else◌}
 use Rattle.std.specs.Prelude.{IsTrue, is_some, option_map}
 use Rattle.std.specs.List.{AllByRecursion as Each, list_any, cons_option}
+use Rattle.std.proofs.Math.Bool.{or-false}
 use Rattle.std.proofs.lemmas.Bool.{cond-true, and_right, or_left, or_right}
 use Rattle.gr_base.specs.declared.records.Edge.{Edge}
 use Rattle.gr_base.specs.Rising.{RisesBy, has}
@@ -24,7 +25,6 @@ use Rattle.gr_agree.specs.FirstTruth.{IsGraph, IsSetting, first_truth}
 use Rattle.gr_agree.specs.Places.{may_have_dead, sets_with}
 use Rattle.gr_agree.specs.Agree.{Agree}
 use Rattle.gr_lists.proofs.Tests.{by_test}
-use Rattle.gr_lists.proofs.Choices.{or_false}
 use Rattle.gr_lists.proofs.Any.{list_any-is}
 use Rattle.gr_lists.proofs.Each.{Each-has}
 use Rattle.gr_lists.proofs.Items.{items-rising, parts-whole}
@@ -120,7 +120,7 @@ module _ {V A : Type 0} (P : Program V A) (L : ProgramLaws P) (s : Setting) (es 
       on-or-done false = refl
 
       live : (p : ℕ) → (has (below s.places) p || false) ≡ true → has (below s.places) p ≡ true
-      live p e = sym (or_false (has (below s.places) p)) ∙ e
+      live p e = sym (or-false (has (below s.places) p)) ∙ e
 
   -- a cluster of this graph that is undisturbed and done has the result
   pub done-result : (c : Cluster V A) → IsUndisturbed P es vs s.limit c → c.coordinator.mode ≡ mode.Done → HasResult P es vs s.limit c

@@ -1,5 +1,5 @@
 -- What the steps of a schedule keep that disturbs nothing.
-use Rattle.std.proofs.Common.{◌≡◌, ℕ, zero, suc, List, [], ◌∷◌, Bool, true, false, refl, sym, ap, ◌∙◌, subst, Option, Some, None}
+use Rattle.std.proofs.Common.{◌≡◌, ℕ, zero, suc, List, [], ◌∷◌, Bool, true, false, refl, sym, ap, ◌∙◌, Option, Some, None}
 use Rattle.std.specs.Prelude.{IsTrue}
 use Rattle.std.specs.List.{find, AllByRecursion as Each}
 use Rattle.gr_base.specs.declared.records.Edge.{Edge}
@@ -7,11 +7,10 @@ use Rattle.gr_base.specs.Places.{below}
 use Rattle.gr_program.specs.Program.{Program, ProgramLaws}
 use Rattle.gr_batch.specs.declared.batch.Batch.{Batch}
 use Rattle.gr_sched.specs.declared.event.Event.{Event}
-use Rattle.gr_sched.specs.declared.event.Event.TheVariants as event
 use Rattle.gr_sched.specs.declared.event.Line.{Line}
 use Rattle.gr_sched.specs.declared.event.Line.TheVariants as line
 use Rattle.gr_view.specs.declared.coordinator.Mode.TheVariants as mode
-use Rattle.gr_view.specs.Modes.{is_over, is_failed}
+use Rattle.gr_view.specs.Modes.{is_over}
 use Rattle.gr_cluster.specs.Tables.{Cluster, host}
 use Rattle.gr_cluster.specs.Todo.{can_work}
 use Rattle.gr_cluster.specs.Load.{Setting, load}

@@ -1,19 +1,15 @@
 -- Whether some element passes a test.
-use Rattle.std.proofs.Common.{◌≡◌, ℕ, List, [], ◌∷◌, ◌++◌, Bool, true, false, ◌==◌, ◌&&◌, ◌||◌, filter, find, flat_map, refl, sym, ap, ◌∙◌, Some, None, eq-eqb, eqb-true}
+use Rattle.std.proofs.Common.{◌≡◌, ℕ, List, [], ◌∷◌, Bool, true, false, ◌==◌, ◌&&◌, ◌||◌, filter, find, flat_map, refl, sym, ap, ◌∙◌, Some, None, eq-eqb, eqb-true}
 use Rattle.std.specs.List.{AllByRecursion as Each, list_any}
+use Rattle.std.proofs.Math.Bool.{and-true}
 use Rattle.std.proofs.lemmas.Bool.{both_ways, and_right, or_left, or_right}
+use Rattle.std.proofs.lemmas.List.Folds.{list_any-append}
 use Rattle.gr_base.specs.Rising.{has}
 use Rattle.gr_lists.proofs.Tests.{by_test}
-use Rattle.gr_lists.proofs.Choices.{and_true_right, or-exchange}
+use Rattle.gr_lists.proofs.Choices.{or-exchange}
 use Rattle.gr_lists.proofs.Each.{Each-always}
 
 module _ {X : Type 0} where
-  pub list_any-append : (f : X → Bool) (xs ys : List X) → list_any f (xs ++ ys) ≡ (list_any f xs || list_any f ys)
-  list_any-append f [] ys = refl
-  list_any-append f (x ∷ xs) ys = by_test (f x)
-      (λ k. rw k refl)
-      (λ k. rw k (list_any-append f xs ys))
-
   pub list_any-none : (f : X → Bool) (xs : List X) → Each (λ x. f x ≡ false) xs → list_any f xs ≡ false
   list_any-none f [] h = refl
   list_any-none f (x ∷ xs) h = rw h.0 (list_any-none f xs h.1)
@@ -37,7 +33,7 @@ module _ {X : Type 0} where
   -- a part of the test that does not look at the element
   pub list_any-and : (f : X → Bool) (w : Bool) (xs : List X) → list_any (λ x. f x && w) xs ≡ (list_any f xs && w)
   list_any-and f w [] = refl
-  list_any-and f true xs = list_any-agree (λ x. f x && true) f xs (Each-always _ (λ x. and_true_right (f x)) xs) ∙ sym (and_true_right (list_any f xs))
+  list_any-and f true xs = list_any-agree (λ x. f x && true) f xs (Each-always _ (λ x. and-true (f x)) xs) ∙ sym (and-true (list_any f xs))
   list_any-and f false xs = list_any-none _ xs (Each-always _ (λ x. and_right (f x) false refl) xs) ∙ sym (and_right (list_any f xs) false refl)
 
   pub list_any-or : (f g : X → Bool) (xs : List X) → list_any (λ x. f x || g x) xs ≡ (list_any f xs || list_any g xs)

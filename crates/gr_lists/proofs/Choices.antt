@@ -1,18 +1,6 @@
 -- Truth values under conjunctions and disjunctions, and choices between values.
 use Rattle.std.proofs.Common.{◌≡◌, Bool, true, false, ◌&&◌, ◌||◌, refl, ap, Option, Some, None, if◌then◌else◌}
 
-pub and_true_right : (b : Bool) → (b && true) ≡ b
-and_true_right true = refl
-and_true_right false = refl
-
-pub or_false : (b : Bool) → (b || false) ≡ b
-or_false true = refl
-or_false false = refl
-
-pub or_true : (b : Bool) → (b || true) ≡ true
-or_true true = refl
-or_true false = refl
-
 pub or_absorbs : (w b : Bool) → (w || (b && w)) ≡ w
 or_absorbs true b = refl
 or_absorbs false true = refl

@@ -2,6 +2,7 @@
 use Rattle.std.proofs.Common.{◌≡◌, ℕ, zero, suc, ◌+◌, ◌<◌, ◌≤◌, List, [], ◌∷◌, ◌++◌, Bool, true, false, cond, ◌&&◌, ◌||◌, map, filter, refl, ap, sym, ◌∙◌, arith, Some, slice_get, remove}
 use Rattle.std.specs.Prelude.{count_by}
 use Rattle.std.specs.List.{AllByRecursion as Each, list_any}
+use Rattle.std.proofs.lemmas.Bool.{or_parts}
 use Rattle.std.proofs.lemmas.List.Sums.{sum_by-append, sum_by-cons}
 use Rattle.gr_lists.proofs.Tests.{by_test}
 
@@ -44,6 +45,13 @@ module _ {X : Type 0} (f : X → Bool) where
   some-counted (x ∷ xs) h = let c = count_by-cons x xs in by_test (f x)
       (λ e. let one : one_if x ≡ 1 = ap (λ b. cond b 1 0) e in omega (arith, c, one))
       (λ e. let h' = rw e at h in let ih = some-counted xs h' in omega (arith, c, ih))
+
+  -- none is counted where none passes
+  pub count_by-none : (xs : List X) → list_any f xs ≡ false → count_by f xs ≡ 0
+  count_by-none [] h = refl
+  count_by-none (x ∷ xs) h =
+      let k = or_parts (f x) (list_any f xs) h in let ih = count_by-none xs k.1 in let c = count_by-cons x xs in
+      let none : one_if x ≡ 0 = ap (λ b. cond b 1 0) k.0 in omega (arith, c, none, ih)
 
   -- a test that holds of each element alike
   pub count_by-agree : (g : X → Bool) (xs : List X) → Each (λ x. f x ≡ g x) xs → count_by f xs ≡ count_by g xs

@@ -7,5 +7,4 @@ pub mod Items
 pub mod Maps
 pub mod Numbers
 pub mod Selections
-pub mod Sets
 pub mod Tests

@@ -1,5 +1,4 @@
 mod Logs
-mod Places
 mod Reading
 mod Worked
 mod Written

@@ -1,13 +1,14 @@
 -- Where the ends of edges stand among the vertices.
 use Rattle.gr_uncut.specs.Index.{AreSmall}
-use Rattle.std.proofs.Common.{◌≡◌, ◌∙◌, ◌<◌, ◌+◌, ◌||◌, ℕ, Bool, true, false, eqb, ltb, List, [], ◌∷◌, ◌++◌, Some, None, length, take, get_or, set, map, refl, ap, sym, arith, inl, inr, ◌≤◌}
+use Rattle.std.proofs.Common.{◌≡◌, ◌∙◌, ◌<◌, ◌+◌, ◌||◌, ℕ, Bool, true, eqb, ltb, List, [], ◌∷◌, ◌++◌, length, take, get_or, set, map, refl, ap, sym, arith, inl, inr, ◌≤◌}
 use Rattle.std.specs.Prelude.{slice_index}
-use Rattle.std.specs.List.{All, filter, find, list_any, prefix_len}
-use Rattle.std.proofs.lemmas.Bool.{cases_order, cases_Bool, cond-true, cond-false, eq-eqb, ne_eqb, cases_eq, eqb-true}
+use Rattle.std.specs.List.{All, filter, list_any, prefix_len}
+use Rattle.std.proofs.lemmas.Bool.{cases_order, cases_Bool, eq-eqb, ne_eqb, cases_eq, eqb-true}
 use Rattle.std.proofs.lemmas.List.{take_more, map-append, get_or_default, get_or-set_same, get_or-set_other, length-set}
 use Rattle.std.proofs.lemmas.List.Elements.{All-cons, All-nil, All-head, All-tail}
 use Rattle.std.proofs.lemmas.List.Folds.{Any-from_list_any}
 use Rattle.gr_base.specs.Rising.{RisesBy, has}
+use Rattle.gr_base.proofs.Missing.{none-any}
 use Rattle.gr_base.proofs.Rising.{stands-at}
 use Rattle.gr_uncut.specs.Rows.{items_of}
 
@@ -15,16 +16,9 @@ pub list_any-map : {X Y : Type 0} (f : X → Y) (p : Y → Bool) (xs : List X) �
 list_any-map f p [] = refl
 list_any-map f p (x ∷ xs) = ap (λ b. p (f x) || b) (list_any-map f p xs)
 
-find-none : {X : Type 0} (p : X → Bool) (xs : List X) → find p xs ≡ None → list_any p xs ≡ false
-find-none p [] e = refl
-find-none p (x ∷ xs) e = elim (cases_Bool (p x)) [
-  | inl on ↦ let some = cond-true (p x) (Some x) (find p xs) on in cc
-  | inr off ↦ let rest = find-none p xs (sym (cond-false (p x) (Some x) (find p xs) off) ∙ e) in rw off rest
-]
-
 -- a number that stands in a rising list stands where the lower ones end
 pub found-at : {X : Type 0} (key : X → ℕ) (xs : List X) (v i : ℕ) (d : X) → RisesBy key xs → prefix_len (λ x. ltb (key x) v) xs ≡ i → has (map key xs) v ≡ true → (i < length xs) × (key (get_or xs i d) ≡ v)
-found-at key xs v i d rise at stands = stands-at key v xs i d rise at (λ none. let off = find-none (λ x. eqb (key x) v) xs none in let on = sym (list_any-map key (λ x. eqb x v) xs) ∙ stands in cc)
+found-at key xs v i d rise at stands = stands-at key v xs i d rise at (λ none. let off = none-any (λ x. eqb (key x) v) xs none in let on = sym (list_any-map key (λ x. eqb x v) xs) ∙ stands in cc)
 
 -- positions of a rising list are told apart by what stands there
 pub same-position : (vs : List ℕ) (j k : ℕ) → RisesBy (λ (n : ℕ). n) vs → j < length vs → k < length vs → eqb (slice_index vs j) (slice_index vs k) ≡ eqb j k
@@ -81,6 +75,13 @@ maps-more f g xs ys i x d lt was here =
     ∙ sym (map-append g (take i ys) (get_or ys i d ∷ []))
     ∙ sym (ap (map g) (take_more ys i d lt))
 
+-- equal lists have equal heads and tails
+pub head : {B : Type 0} {b c : B} {bs cs : List B} → b ∷ bs ≡ c ∷ cs → b ≡ c
+head q = cc
+
+pub tail : {B : Type 0} {b c : B} {bs cs : List B} → b ∷ bs ≡ c ∷ cs → bs ≡ cs
+tail q = cc
+
 -- the items of a key are those of what they tell
 pub items_of-told : {X Y Z : Type 0} (name : X → Z) (at : ℕ → ℕ) (told : Y → Z) (key : Y → ℕ) (keys : List ℕ) (xs : List X) (ys : List Y) (k : ℕ)
     → map at keys ≡ map key ys → map name xs ≡ map told ys → All (λ j. eqb (at j) (at k) ≡ eqb j k) keys
@@ -97,12 +98,6 @@ items_of-told name at told key (j ∷ keys) (x ∷ xs) (y ∷ ys) k same all apa
       | inl on ↦ let on' = test ∙ on in rw (on, on') (ap (λ z. z ∷ map name (items_of keys xs k)) (head all) ∙ ap (λ l. told y ∷ l) rest)
       | inr off ↦ let off' = test ∙ off in rw (off, off') rest
     ]
-  where
-    head : {B : Type 0} {b c : B} {bs cs : List B} → b ∷ bs ≡ c ∷ cs → b ≡ c
-    head q = cc
-
-    tail : {B : Type 0} {b c : B} {bs cs : List B} → b ∷ bs ≡ c ∷ cs → bs ≡ cs
-    tail q = cc
 
 -- what holds of all items holds of the items of a key
 pub items_of-all : {X : Type 0} (P : X → Type 0) (keys : List ℕ) (xs : List X) (k : ℕ) → All P xs → All P (items_of keys xs k)

@@ -17,14 +17,8 @@ use Rattle.gr_uncut.specs.declared.index.Arc.{Arc}
 use Rattle.gr_uncut.specs.declared.index.Index.{Index}
 use Rattle.gr_uncut.specs.Index.{arc_of, with_id, arcs_at, targets_at, IsIndex}
 use Rattle.gr_uncut.specs.Round.{Reads, brought, applied, is_woken, Holds}
-use Rattle.gr_uncut.proofs.Positions.{list_any-map, same-position, place-of}
+use Rattle.gr_uncut.proofs.Positions.{list_any-map, same-position, place-of, head, tail}
 use Rattle.gr_uncut.proofs.Passing.{list_any-same, list_any-filter, same_tests}
-
-head : {B : Type 0} {b c : B} {bs cs : List B} → b ∷ bs ≡ c ∷ cs → b ≡ c
-head q = cc
-
-tail : {B : Type 0} {b c : B} {bs cs : List B} → b ∷ bs ≡ c ∷ cs → bs ≡ cs
-tail q = cc
 
 -- arcs bring what their edges contribute
 brought-edges : {V A : Type 0} (p : Program V A) (vs : List ℕ) (es : List Edge) (x : ℕ → V) (arcs : List Arc) (edges : List Edge) → map (with_id vs) arcs ≡ map (arc_of es) edges → map (brought p (λ k. x (slice_index vs k))) arcs ≡ map (contribution p es x) edges

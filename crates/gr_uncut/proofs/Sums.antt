@@ -1,5 +1,6 @@
 -- Sums and new values, one element more.
-use Rattle.std.proofs.Common.{◌≡◌, ◌∙◌, ◌<◌, ◌+◌, ◌||◌, ℕ, Bool, true, false, eqb, List, [], ◌∷◌, ◌++◌, length, take, get_or, set, map, if◌then◌else◌, refl, ap, sym, inl, inr}
+use Rattle.std.proofs.Common.{◌≡◌, ◌∙◌, ◌<◌, ◌+◌, ◌||◌, ℕ, Bool, true, eqb, List, [], ◌∷◌, ◌++◌, length, take, get_or, set, map, if◌then◌else◌, ap, sym, inl, inr}
+use Rattle.std.proofs.Math.Bool.{or-false}
 use Rattle.std.proofs.lemmas.Bool.{cases_eq, eq-eqb, ne_eqb, or_right}
 use Rattle.std.proofs.lemmas.List.{take_more, map-append, get_or-set_same, get_or-set_other, length-set}
 use Rattle.std.proofs.lemmas.List.Folds.{list_any_more}
@@ -25,10 +26,6 @@ map-push f xs ys i y d lt was here =
 pub has-more : (ks : List ℕ) (i k : ℕ) → i < length ks → has (take (i + 1) ks) k ≡ (has (take i ks) k || eqb (get_or ks i 0) k)
 has-more ks i k lt = list_any_more (λ j. eqb j k) ks i 0 lt
 
-or_false : (b : Bool) → (b || false) ≡ b
-or_false true = refl
-or_false false = refl
-
 -- a new value put at its position
 pub put-more : {V : Type 0} (x y : ℕ → V) (ks : List ℕ) (i k : ℕ) (v : V) (xs : List V) → i < length ks → get_or ks i 0 ≡ k → k < length xs → v ≡ y k
     → Reads (λ j. if has (take i ks) j then y j else x j) xs → Reads (λ j. if has (take (i + 1) ks) j then y j else x j) (set xs k v)
@@ -37,7 +34,7 @@ put-more x y ks i k v xs lt at low is was = λ j d within. elim (cases_eq j k) [
       let on : has (take (i + 1) ks) j ≡ true = has-more ks i j lt ∙ or_right (has (take i ks) j) (eqb (get_or ks i 0) j) (eq-eqb (get_or ks i 0) j (at ∙ sym same)) in
       rw on (ap (λ n. get_or (set xs k v) n d) same ∙ get_or-set_same xs k v d low ∙ is ∙ ap y (sym same))
   | inr apart ↦
-      let kept : has (take (i + 1) ks) j ≡ has (take i ks) j = has-more ks i j lt ∙ ap (λ b. has (take i ks) j || b) (ne_eqb (get_or ks i 0) j (λ e. apart (sym e ∙ at))) ∙ or_false (has (take i ks) j) in
+      let kept : has (take (i + 1) ks) j ≡ has (take i ks) j = has-more ks i j lt ∙ ap (λ b. has (take i ks) j || b) (ne_eqb (get_or ks i 0) j (λ e. apart (sym e ∙ at))) ∙ or-false (has (take i ks) j) in
       get_or-set_other xs k j v d apart
       ∙ was j d (rw (← length-set xs k v) within)
       ∙ ap (λ (b : Bool). if b then y j else x j) (sym kept)

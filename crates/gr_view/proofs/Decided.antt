@@ -3,6 +3,7 @@ use Rattle.std.proofs.Common.{◌≡◌, ◌∙◌, ◌+◌, ◌≤◌, ℕ, Boo
 use Rattle.std.specs.Prelude.{◌&&◌, ◌⊎◌, Option, Some, None, slice_get}
 use Rattle.std.specs.List.{find}
 use Rattle.std.specs.Option.{option_or}
+use Rattle.std.proofs.Math.Bool.{not-not}
 use Rattle.std.proofs.lemmas.Bool.{cond-true, cond-false, leb-true, le-leb}
 use Rattle.std.proofs.lemmas.List.Filters.{length-filter_both}
 use Rattle.gr_base.specs.Rising.{without, includes, has}
@@ -72,11 +73,7 @@ module _ (co : Coordinator) where
 -- ---- sizes
 
 pub without-shorter : (xs ys : List ℕ) → length (without xs ys) ≤ length xs
-without-shorter xs ys = omega (arith, length-filter_both (λ x. not (has ys x)) (has ys) (λ x. twice (has ys x)) xs)
-  where
-    twice : (b : Bool) → b ≡ not (not b)
-    twice true = refl
-    twice false = refl
+without-shorter xs ys = omega (arith, length-filter_both (λ x. not (has ys x)) (has ys) (λ x. sym (not-not (has ys x))) xs)
 
 -- ---- a repair, and a discard
 

@@ -2,7 +2,8 @@ use Rattle.std.proofs.Common.{◌≡◌, ◌∙◌, ℕ, sym, ap, arith}
 use Rattle.std.proofs.lemmas.Nat.{one_shl}
 use Rattle.gr_base.specs.Places.{members_from, word_of}
 use Rattle.gr_base.specs.Rising.{has}
-use Rattle.gr_batch.proofs.Words.{places_has, word-fits, word-with, word-without}
+use Rattle.gr_base.proofs.PlaceSets.{places-has}
+use Rattle.gr_batch.proofs.Words.{word-fits, word-with, word-without}
 use Rattle.gr_base.proofs.Members.{members_nil}
 use Rattle.gr_batch.proofs.holders.word_of.Goals.{then-has, else-has}
 use Rattle.gr_batch.proofs.holders.word_of.Goals as goal
@@ -28,4 +29,4 @@ loop-p-preserved c =
 pub returns : goal.returns
 returns c =
     let e : c.loop-p.p ≡ 64 = omega arith in
-    c.loop-p.invariant.so_far ∙ ap (λ (n : ℕ). word_of (members_from (has c.args.places) 0 n)) e ∙ ap word_of (places_has c.args.places (c.loop-p.invariant.places (omega arith)))
+    c.loop-p.invariant.so_far ∙ ap (λ (n : ℕ). word_of (members_from (has c.args.places) 0 n)) e ∙ ap word_of (places-has c.args.places (c.loop-p.invariant.places (omega arith)))

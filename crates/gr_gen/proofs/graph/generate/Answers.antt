@@ -1,7 +1,8 @@
 use Rattle.std.proofs.Common.{◌≡◌, ap, ◌∙◌, arith}
 use Rattle.std.specs.List.{range_with_len}
 use Rattle.gr_gen.specs.Generated.{vertices_below}
-use Rattle.gr_gen.proofs.Ends.{range-rises, edges_of-ends, length-edges_of}
+use Rattle.gr_base.proofs.Ranges.{range-rises}
+use Rattle.gr_gen.proofs.Ends.{edges_of-ends, length-edges_of}
 use Rattle.gr_gen.proofs.graph.generate.Goals as goal
 
 pub from_edges-requires : goal.from_edges-requires

@@ -2,7 +2,7 @@ use Rattle.std.proofs.Common.{◌≡◌, ◌<◌, not}
 use Rattle.std.specs.Prelude.{◌&&◌}
 use Rattle.gr_base.specs.Rising.{has}
 use Rattle.gr_base.specs.Places.{IsPlaces}
-use Rattle.gr_view.proofs.Sets.{members_to}
+use Rattle.gr_base.proofs.PlaceSets.{members_to}
 use Rattle.gr_view.proofs.places.difference.Given as goal
 
 abbrev pub invariant-loop-p : goal.invariant-loop-p

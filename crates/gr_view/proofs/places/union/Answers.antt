@@ -2,7 +2,8 @@ use Rattle.std.proofs.Common.{◌≡◌, ◌∙◌, ℕ, true, false, List, sym,
 use Rattle.std.specs.Prelude.{◌||◌}
 use Rattle.gr_base.specs.Rising.{has}
 use Rattle.gr_base.specs.Places.{with_place}
-use Rattle.gr_view.proofs.Sets.{members_to, members_to-with, members_to-same, members_to-end, members-union}
+use Rattle.gr_base.proofs.PlaceSets.{members_to, members_to-with, members_to-same, members_to-end}
+use Rattle.gr_view.proofs.Sets.{members-union}
 use Rattle.gr_view.proofs.places.union.Goals as goal
 use Rattle.gr_view.proofs.places.union.Goals.{then-has, else-has}
 
