@@ -16,7 +16,7 @@ const MOST_COPIES: usize = u32::MAX as usize;
 /// `pending`, which counts from the next `install` on.
 ///
 /// Neither `install` nor `discard` takes memory: `stage_copy` has reserved in each layer the room for the other. A layer
-/// holds fewer than 2^32 copies, and a further one is refused as one for which there is no memory.
+/// holds fewer than 2^32 copies, and one of a further vertex is refused as one for which there is no memory.
 #[derive(Drop)]
 pub struct Rows<V: Datum> {
     stable: Vec<VertexCopy<V>>,
@@ -127,14 +127,12 @@ impl<V: Datum> Rows<V> {
     /// Puts a copy into the pending layer, in the place of that of its vertex if there is one. A copy above all others
     /// costs amortized constant time and a search, any other the time to move those above it.
     ///
-    /// The one error is that memory ran out; then both layers are as before.
+    /// The one error is that there is no room: memory ran out, or the pending layer holds 2^32 - 1 copies and none of
+    /// this vertex. Then both layers are as before.
     pub fn stage_copy(&mut self, copy: VertexCopy<V>) -> Result<(), OutOfMemory>
         ensures ok { OnOk result (self.new ≡ record self.old { pending = with_item vertex_of copy self.old.pending }) }
         ensures err { OnErr result (self.new ≡ self.old) }
     {
-        if self.pending.len() >= MOST_COPIES {
-            return Err(OutOfMemory);
-        }
         let more = (self.pending.len() + 1).saturating_sub(self.stable.len());
         self.stable.reserve(more)?;
         put_copy(&mut self.pending, copy)
@@ -204,23 +202,27 @@ fn mark_due<V: Datum>(copies: &mut [VertexCopy<V>], due: &[u32])
     }
 }
 
-/// Puts a copy at its vertex, in the place of that of its vertex if there is one.
+/// Puts a copy at its vertex, in the place of that of its vertex if there is one. A full layer takes no further vertex.
 fn put_copy<V: Datum>(
     copies: &mut Vec<VertexCopy<V>>,
     copy: VertexCopy<V>,
 ) -> Result<(), OutOfMemory>
-    requires { RisesBy vertex_of copies.old.items }
+    requires rises { RisesBy vertex_of copies.old.items }
+    requires few { vec_len copies.old < 2 ^ 32 }
     ensures ok { OnOk result (copies.new.items ≡ with_item vertex_of copy copies.old.items) }
     ensures err { OnErr result (copies.new.items ≡ copies.old.items) }
     ensures rises { RisesBy vertex_of copies.new.items }
     ensures len { vec_len copies.new ≤ vec_len copies.old + 1 }
+    ensures few { vec_len copies.new < 2 ^ 32 }
     ensures capacity { vec_capacity copies.old ≤ vec_capacity copies.new }
 {
     let at = place_of(copies.as_slice(), copy.vertex);
     if at < copies.len() && copies[at].vertex == copy.vertex {
         copies[at] = copy;
-    } else {
+    } else if copies.len() < MOST_COPIES {
         copies.insert(at, copy)?;
+    } else {
+        return Err(OutOfMemory);
     }
     Ok(())
 }

@@ -26,7 +26,7 @@ returns-then-index-copy-clause-rises g c =
     let e = c.place_of-at.ensures ∙ ap (prefix_len (λ (k : VertexCopy g.row.V.Denot). ltb k.vertex c.args.copy.vertex)) c.as_slice.ensures.value in
     subst (RisesBy vertex_of)
     (sym (with-found vertex_of c.args.copy xs c.place_of-at.result c.index.result.now (sym e) (omega (arith, ap length c.as_slice.ensures.value)) (sym (ap vertex_of c.index.ensures) ∙ c.if-index-copy.true)))
-    (with-rises vertex_of c.args.copy xs c.requires)
+    (with-rises vertex_of c.args.copy xs c.requires.rises)
 
 pub returns-in_ok-insert-clause-ok : goal.returns-in_ok-insert-clause-ok
 returns-in_ok-insert-clause-ok g c =
@@ -38,4 +38,4 @@ returns-in_ok-insert-clause-ok g c =
     ]
 
 pub returns-in_ok-insert-clause-rises : goal.returns-in_ok-insert-clause-rises
-returns-in_ok-insert-clause-rises g c = subst (RisesBy vertex_of) (sym (returns-in_ok-insert-clause-ok g c)) (with-rises vertex_of c.args.copy c.args.copies.now.items c.requires)
+returns-in_ok-insert-clause-rises g c = subst (RisesBy vertex_of) (sym (returns-in_ok-insert-clause-ok g c)) (with-rises vertex_of c.args.copy c.args.copies.now.items c.requires.rises)
