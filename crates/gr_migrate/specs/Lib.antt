@@ -1,0 +1,4 @@
+pub mod Askers
+pub mod Asks
+pub mod Ends
+pub mod Granted

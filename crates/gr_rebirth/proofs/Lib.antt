@@ -1,0 +1,2 @@
+pub mod LastOfEach
+pub mod Next

@@ -1,0 +1,17 @@
+//! What a place starts from that lost its memory: the copies and edges that its log says.
+#![tactic(auto)]
+
+mod entry;
+mod granted;
+mod latest;
+mod records;
+mod spare;
+
+pub use entry::LogEntry;
+pub use granted::grant_into;
+pub use latest::{Numbered, last_of_each};
+pub use records::{directory, edges, kept_edges};
+pub use spare::{Rebuilt, blank};
+
+#[cfg(test)]
+mod tests;

@@ -1,0 +1,5 @@
+pub mod Below
+pub mod Chosen
+pub mod Extras
+pub mod Granted
+pub mod Repair
