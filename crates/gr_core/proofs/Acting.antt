@@ -10,6 +10,7 @@ use Rattle.gr_batch.specs.declared.outcome.Outcome.{Outcome}
 use Rattle.gr_batch.specs.declared.outcome.Outcome.TheVariants as outcome
 use Rattle.gr_batch.specs.Bodies.{stage_of_body}
 use Rattle.gr_batch.specs.Stages.{is_end}
+use Rattle.gr_sched.specs.declared.event.Event.TheVariants as event
 use Rattle.gr_view.specs.declared.coordinator.Coordinator.{Coordinator}
 use Rattle.gr_view.specs.Modes.{is_rebuild}
 use Rattle.gr_view.specs.Decisions.{parties, reported}
@@ -245,9 +246,9 @@ module _ {V A : Type 0} (P : Program V A) (k : Cluster V A) (p : ℕ) (h : Host 
         (λ j. (record k { hosts = hs' j; flight = fl' j; serial = serial j }, o' j)) ∙ ap (worked P k p h) (sym I.is)
 
   -- what takes no memory only tells something
-  pub told-next : takes_memory (worked P k p h (todo k.coordinator p h)).1 ≡ false → IsTrue (is_told (todo k.coordinator p h))
+  pub told-next : takes_memory (event.Work p) (worked P k p h (todo k.coordinator p h)).1 ≡ false → IsTrue (is_told (todo k.coordinator p h))
   unfolding worked
-  told-next = case-todo k.coordinator p h none' (λ x. takes_memory (worked P k p h x).1 ≡ false → IsTrue (is_told x))
+  told-next = case-todo k.coordinator p h none' (λ x. takes_memory (event.Work p) (worked P k p h x).1 ≡ false → IsTrue (is_told x))
       (λ e. refl)
       (λ s q e. refl)
       (λ o lt e. absurd (let i = M.installed in omega (arith, lt, i)))

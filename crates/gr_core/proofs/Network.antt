@@ -1,5 +1,5 @@
 -- What a delivery and a drop make of a cluster.
-use Rattle.std.proofs.Common.{◌≡◌, ℕ, ◌≤◌, List, Bool, true, false, cond, ◌==◌, refl, sym, ap, ◌∙◌, subst, arith, Option, Some, None, slice_get, remove, eq-eqb, get_or, set, Result, Ok, Err}
+use Rattle.std.proofs.Common.{◌≡◌, ℕ, ◌≤◌, List, Bool, true, false, cond, ◌==◌, refl, sym, ap, ◌∙◌, arith, Option, Some, None, slice_get, remove, eq-eqb, get_or, set, Result, Ok, Err}
 use Rattle.std.specs.Prelude.{count_by, IfOk, OnErr}
 use Rattle.std.specs.List.{list_any}
 use Rattle.gr_program.specs.Program.{Program}

@@ -10,6 +10,8 @@ use Rattle.gr_sched.specs.declared.event.Event.{Event}
 use Rattle.gr_sched.specs.declared.event.Event.TheVariants as event
 use Rattle.gr_view.specs.declared.coordinator.Verdict.{Verdict}
 use Rattle.gr_view.specs.declared.coordinator.Verdict.TheVariants as verdict
+use Rattle.gr_view.specs.declared.coordinator.Opening.{Opening}
+use Rattle.gr_view.specs.declared.coordinator.Opening.TheVariants as opening
 use Rattle.gr_rules.specs.Todo.{Todo}
 use Rattle.gr_round.specs.declared.act.Act.{Act}
 use Rattle.gr_round.specs.declared.view.RoundView.{RoundView}
@@ -48,21 +50,33 @@ module _ {V A : Type 0} where
     abbrev pub acted_host : Todo → Host V A
     acted_host x = in_line (line_after (without_place w.parties p) (line_of h) x) (record h { pending = pending_after P p w h.inbox h.arcs (line_of h) (copies_of h) x })
 
--- a stage is computed, a batch sent or delivered with memory alone; all else takes none
-abbrev pub takes_memory : {V A : Type 0} → Outcome V A → Bool
-takes_memory (outcome.Computed s) = true
-takes_memory (outcome.Sent n s q) = true
-takes_memory (outcome.Delivered b f) = true
-takes_memory _ = false
+-- a delivery and a recovery take memory, and of the works those that compute, send or append; all else takes none
+abbrev pub takes_memory : {V A : Type 0} → Event → Outcome V A → Bool
+takes_memory (event.Deliver i) o = true
+takes_memory (event.Recover ps) o = true
+takes_memory (event.Work p) (outcome.Computed s) = true
+takes_memory (event.Work p) (outcome.Sent n s q) = true
+takes_memory (event.Work p) (outcome.Appended n) = true
+takes_memory _ _ = false
 
--- the outcome of a barrier that finds no place down, by the verdict of the coordinator
+-- the outcome of a barrier, by the verdict of the coordinator
 abbrev pub told_of : {V A : Type 0} → Verdict → Outcome V A
 told_of (verdict.Failed ps) = outcome.Failed ps
 told_of (verdict.Committed n r d) = outcome.Committed n r d
 told_of (verdict.NotReady p) = outcome.NotReady p
 told_of verdict.Idle = outcome.Idle
 
--- a batch comes to its receiver
-abbrev pub is_delivery : Event → Bool
-is_delivery (event.Deliver i) = true
-is_delivery _ = false
+-- the outcome of a recovery, with the number of lost vertices
+abbrev pub opened_of : {V A : Type 0} → ℕ → Opening → Outcome V A
+opened_of n (opening.Opened e) = outcome.Opened e
+opened_of n opening.Lost = outcome.LostFound n
+opened_of n opening.Idle = outcome.Idle
+
+-- the outcome of a repair, and of a discard, by the new epoch
+abbrev pub opened_in : {V A : Type 0} → Option ℕ → Outcome V A
+opened_in None = outcome.Idle
+opened_in (Some e) = outcome.Opened e
+
+abbrev pub discarded_in : {V A : Type 0} → Option ℕ → Outcome V A
+discarded_in None = outcome.Idle
+discarded_in (Some e) = outcome.Discarded e

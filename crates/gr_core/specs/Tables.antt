@@ -1,6 +1,7 @@
 -- What contracts see of a host and of a cluster.
-use Rattle.std.specs.Prelude.{ℕ, Bool, true, false, ◌&&◌, ◌==◌, not, List, Option, if◌then◌else◌, find}
+use Rattle.std.specs.Prelude.{ℕ, ◌≡◌, Bool, true, false, ◌&&◌, ◌==◌, not, List, [], Option, if◌then◌else◌, find}
 use Rattle.gr_program.specs.declared.copy.VertexCopy.{VertexCopy}
+use Rattle.gr_program.specs.Program.{Program}
 use Rattle.gr_rows.specs.Layers.{CopyLayers}
 use Rattle.gr_arcs.specs.Layers.{EdgeLayers}
 use Rattle.gr_batch.specs.declared.batch.Batch.{Batch}
@@ -9,6 +10,8 @@ use Rattle.gr_batch.specs.declared.stage.Stage.TheVariants as stage
 use Rattle.gr_round.specs.Line.{RoundLine}
 use Rattle.gr_cluster.specs.Tables.{Host, Cluster, effective}
 use Rattle.gr_cluster.specs.Ending.{effective_at}
+use Rattle.gr_agree.specs.Truth.{Truth}
+use Rattle.gr_agree.specs.Agree.{Agree}
 use Rattle.gr_core.specs.declared.rebuild_line.RebuildLine.{RebuildLine}
 
 -- a place is in a round where its rebuild stands at a stage that no rebuild has
@@ -53,6 +56,12 @@ host_of rows arcs inbox epoch installed l r = record {
 pub record Tables (P V A : Type 0) : Type 0 where
   pub program : P
   pub cluster : Cluster V A
+
+-- what a cluster keeps: it agrees with some committed state, and no place is reborn yet
+pub record Agrees {V A : Type 0} (P : Program V A) (c : Cluster V A) : Type 0 where
+  pub state : Truth V
+  pub holds : Agree P state c
+  pub none_reborn : c.coordinator.reborn ≡ []
 
 module _ {V A : Type 0} where
   -- the copy of a vertex among those that a host shows

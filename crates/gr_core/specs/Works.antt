@@ -1,5 +1,5 @@
 -- What the work of a place in a round needs, by its host.
-use Rattle.std.specs.Prelude.{ℕ, ◌≡◌, ◌<◌, ◌+◌, ◌^◌, false, not, IsTrue, IsSome, List, Option, map, length}
+use Rattle.std.specs.Prelude.{ℕ, ◌≡◌, ◌<◌, ◌+◌, ◌^◌, false, not, IsTrue, IsSome, List, Option, map}
 use Rattle.gr_base.specs.Rising.{has}
 use Rattle.gr_base.specs.Places.{without_place}
 use Rattle.gr_program.specs.Program.{Program}

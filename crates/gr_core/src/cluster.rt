@@ -8,7 +8,9 @@ ghost use Rattle.gr_core.specs.Tables as tables;
 
 mod barrier;
 mod can_work;
+mod crash;
 mod network;
+mod recover;
 mod results;
 mod step;
 mod work;
@@ -29,8 +31,7 @@ use std::marker::Model;
 
 /// A cluster of places, each with a machine that may be down and a log that outlives it, and the batches between them.
 ///
-/// It agrees at all times with some committed state of the graph, its copies and their values; rounds go on or are done,
-/// and every place is up.
+/// It agrees at all times with some committed state of the graph, its copies and their values, whatever places are down.
 #[derive(Drop)]
 pub struct Cluster<P: VertexProgram> {
     pub(crate) alloc: Global,
@@ -46,14 +47,13 @@ pub struct Cluster<P: VertexProgram> {
 }
 
 impl<P: VertexProgram> Model for Cluster<P> {
-    ghost use Rattle.gr_law_runs.specs.Undisturbed.{RunsUndisturbed};
-    ghost use Rattle.gr_core.specs.Tables.{Tables};
+    ghost use Rattle.gr_core.specs.Tables.{Tables, Agrees};
 
     ghost Value = { Tables P P.Value P.Acc };
 
     ghost view = { λ c. record { program = c.program; cluster = record { hosts = c.hosts.items; logs = c.logs.items; flight = c.flight; serial = c.serial; coordinator = c.coordinator; places = c.places; losses = c.losses; theta = c.theta } } };
 
-    ghost invariant = { λ c. RunsUndisturbed (P.program_of c.program) (record { hosts = c.hosts.items; logs = c.logs.items; flight = c.flight; serial = c.serial; coordinator = c.coordinator; places = c.places; losses = c.losses; theta = c.theta }) };
+    ghost invariant = { λ c. Agrees (P.program_of c.program) (record { hosts = c.hosts.items; logs = c.logs.items; flight = c.flight; serial = c.serial; coordinator = c.coordinator; places = c.places; losses = c.losses; theta = c.theta }) };
 }
 
 impl<P: VertexProgram> Cluster<P> {
@@ -72,7 +72,8 @@ impl<P: VertexProgram> Cluster<P> {
     ) -> Result<Cluster<P>, OutOfMemory>
         requires edges { length graph.now.edges ≤ 4194304 }
         requires vertices { length graph.now.vertices ≤ 1048576 }
-        ensures { IfOk result (λ c. c ≡ record { program = program; cluster = load (P.program_of program) (setting_of job.now) graph.now.edges (ids graph.now.vertices) }) }
+        ensures cluster { IfOk result (λ c. c ≡ record { program = program; cluster = load (P.program_of program) (setting_of job.now) graph.now.edges (ids graph.now.vertices) }) }
+        ensures undisturbed { IfOk result (λ c. RunsUndisturbed (P.program_of c.program) c.cluster) }
     {
         let theta = job.theta;
         let cut = cut(alloc, graph, job.places, theta)?;
@@ -132,7 +133,7 @@ impl<P: VertexProgram> Cluster<P> {
     /// What the cluster is at.
     pub fn mode(&self) -> Mode
         ensures mode { result ≡ self.now.cluster.coordinator.mode }
-        ensures undisturbed { RunsUndisturbed (P.program_of self.now.program) self.now.cluster }
+        ensures agrees { tables.Agrees (P.program_of self.now.program) self.now.cluster }
     {
         self.coordinator.mode
     }

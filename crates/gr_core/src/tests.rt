@@ -1,5 +1,6 @@
-// A cluster at load, and a run of one that nothing disturbs.
+// A cluster at load, a run of one that nothing disturbs, and what comes of crashes.
 ghost use Rattle.std.specs.Prelude.{◌≡◌, ◌≤◌, ◌<◌, ◌-◌, ◌^◌, true, length};
+ghost use Rattle.gr_view.specs.Modes as modes;
 
 use crate::{Cluster, Host, RebuildLine};
 use gr_base::{OutOfMemory, PlaceSet};
@@ -13,16 +14,20 @@ use gr_view::Mode;
 use std::alloc::Global;
 use std::test::Fail;
 
-fn loaded(alloc: Global, graph: &[u8]) -> Result<Cluster<Shortest>, Fail>
+fn loaded(alloc: Global, graph: &[u8], job: &[u8]) -> Result<Cluster<Shortest>, Fail>
     requires { length graph.now ≤ 268435456 }
 {
     let graph = read_graph(alloc, graph, false)?;
-    let job = read_job(alloc, b"places = 2\nprogram = \"shortest\"\nsource = 0\n")?;
+    let job = read_job(alloc, job)?;
     Ok(Cluster::load(alloc, &graph, &job, Shortest { source: 0 })?)
 }
 
+const TWO_PLACES: &[u8] = b"places = 2\nprogram = \"shortest\"\nsource = 0\n";
+
+const THREE_PLACES: &[u8] = b"places = 3\nprogram = \"shortest\"\nsource = 0\n";
+
 fn triangle(alloc: Global) -> Result<Cluster<Shortest>, Fail> {
-    loaded(alloc, b"0 1\n1 2\n0 2")
+    loaded(alloc, b"0 1\n1 2\n0 2", TWO_PLACES)
 }
 
 fn copy_at(cluster: &Cluster<Shortest>, p: u8, v: u32) -> Option<VertexCopy<Distance>> {
@@ -32,11 +37,21 @@ fn copy_at(cluster: &Cluster<Shortest>, p: u8, v: u32) -> Option<VertexCopy<Dist
     None
 }
 
-fn can_work(cluster: &Cluster<Shortest>, p: u8) -> bool {
-    if p < cluster.places() {
-        return cluster.can_work(p);
+// Whether a recovery or a repair is open.
+fn is_rebuild(mode: Mode) -> bool
+    ensures { result ≡ modes.is_rebuild mode }
+{
+    match mode {
+        Mode::Recovering | Mode::Repairing => true,
+        _ => false,
     }
-    false
+}
+
+fn can_work(cluster: &Cluster<Shortest>, p: u8) -> bool {
+    if p >= cluster.places() || is_rebuild(cluster.mode()) {
+        return false;
+    }
+    cluster.can_work(p)
 }
 
 // A copy that both places have.
@@ -110,15 +125,28 @@ fn take(
     if !has_room(cluster) {
         return Ok(None);
     }
+    let rebuild = is_rebuild(cluster.mode());
     match event {
         Event::Work(p) => {
-            if p < cluster.places() {
-                return Ok(Some(cluster.step(event)?));
+            if p >= cluster.places() || rebuild {
+                return Ok(None);
             }
-            Ok(None)
+            Ok(Some(cluster.step(event)?))
         }
-        Event::Deliver(_) | Event::Discarded(_) | Event::Barrier => Ok(Some(cluster.step(event)?)),
-        _ => Ok(None),
+        Event::Crash(p, _) => {
+            if p >= cluster.places() {
+                return Ok(None);
+            }
+            Ok(Some(cluster.step(event)?))
+        }
+        Event::Barrier => {
+            if rebuild {
+                return Ok(None);
+            }
+            Ok(Some(cluster.step(event)?))
+        }
+        Event::Recover(_) => Ok(Some(cluster.step(Event::Recover(PlaceSet::none()))?)),
+        _ => Ok(Some(cluster.step(event)?)),
     }
 }
 
@@ -135,7 +163,7 @@ fn result_at(cluster: &Cluster<Shortest>, i: usize) -> Result<Option<(u32, u64)>
 
 #[test]
 fn a_graph_without_vertices_is_done_at_load(rt: HostRuntime) -> Result<(), Fail> {
-    let empty = loaded(rt.alloc(), b"")?;
+    let empty = loaded(rt.alloc(), b"", TWO_PLACES)?;
     assert_eq!(rt; empty.mode(), Mode::Done);
     assert_eq!(rt; result_at(&empty, 0)?, None);
     Ok(())
@@ -165,6 +193,103 @@ fn a_run_ends_with_the_distances(rt: HostRuntime) -> Result<(), Fail> {
     ] {
         assert_eq!(rt; result_at(&cluster, i)?, value);
     }
+    Ok(())
+}
+
+// What an event told, for the outcomes of crashes and of what follows them.
+#[derive(Clone, Copy, Debug, PartialEq, Eq)]
+enum Told {
+    Idle,
+    Adopted(u64),
+    Crashed(u32),
+    Failed(PlaceSet),
+    Opened(u64),
+    LostFound(u32),
+    Discarded(u64),
+    Else,
+}
+
+fn answered(outcome: &Option<Outcome<Distance, Distance>>) -> Told {
+    match outcome {
+        Some(Outcome::Idle) => Told::Idle,
+        Some(Outcome::Adopted(epoch)) => Told::Adopted(*epoch),
+        Some(Outcome::Crashed(kept)) => Told::Crashed(*kept),
+        Some(Outcome::Failed(places)) => Told::Failed(*places),
+        Some(Outcome::Opened(epoch)) => Told::Opened(*epoch),
+        Some(Outcome::LostFound(count)) => Told::LostFound(*count),
+        Some(Outcome::Discarded(epoch)) => Told::Discarded(*epoch),
+        _ => Told::Else,
+    }
+}
+
+// The `i`-th lost vertex of a run that has lost some.
+fn lost_at(cluster: &Cluster<Shortest>, i: usize) -> Result<Option<u32>, OutOfMemory> {
+    match cluster.mode() {
+        Mode::Lost => Ok(cluster.lost_list()?.as_slice().get(i).copied()),
+        _ => Ok(None),
+    }
+}
+
+#[test]
+fn a_vertex_whose_holders_are_dead_is_lost(rt: HostRuntime) -> Result<(), Fail> {
+    let mut cluster = loaded(rt.alloc(), b"0 1\n1 2\n0 2", THREE_PLACES)?;
+    let recover = Event::Recover(PlaceSet::none());
+    let crashed = PlaceSet::none().with(0).with(2);
+    for (event, outcome) in [
+        (recover, Told::Idle),
+        (Event::Crash(0, 0), Told::Crashed(0)),
+        (Event::Crash(0, 0), Told::Idle),
+        (Event::Work(0), Told::Idle),
+        (Event::Crash(2, 9), Told::Crashed(0)),
+        (Event::Barrier, Told::Failed(crashed)),
+        (Event::Barrier, Told::Idle),
+        (Event::Discard, Told::Idle),
+        (Event::Work(1), Told::Adopted(1)),
+        (Event::Work(1), Told::Idle),
+        (recover, Told::LostFound(1)),
+        (Event::Barrier, Told::Idle),
+    ] {
+        assert_eq!(rt; answered(&take(&mut cluster, event)?), outcome);
+    }
+    assert_eq!(rt; cluster.mode(), Mode::Lost);
+    assert_eq!(rt; cluster.up(), PlaceSet::none().with(1));
+    assert_eq!(rt;
+        (lost_at(&cluster, 0)?, lost_at(&cluster, 1)?),
+        (Some(2), None)
+    );
+    assert_eq!(rt; copy_at(&cluster, 0, 0), None);
+    Ok(())
+}
+
+#[test]
+fn what_is_opened_is_dropped_again(rt: HostRuntime) -> Result<(), Fail> {
+    let mut cluster = triangle(rt.alloc())?;
+    for (event, outcome, mode) in [
+        (Event::Discard, Told::Discarded(1), Mode::Running),
+        (Event::Repair, Told::Opened(2), Mode::Repairing),
+        (Event::Repair, Told::Idle, Mode::Repairing),
+        (Event::Discard, Told::Discarded(3), Mode::Running),
+        (Event::Work(0), Told::Adopted(3), Mode::Running),
+        (Event::Crash(1, 0), Told::Crashed(0), Mode::Running),
+        (
+            Event::Barrier,
+            Told::Failed(PlaceSet::none().with(1)),
+            Mode::Failed,
+        ),
+        (
+            Event::Recover(PlaceSet::none()),
+            Told::Opened(5),
+            Mode::Recovering,
+        ),
+        (Event::Discard, Told::Discarded(6), Mode::Failed),
+    ] {
+        assert_eq!(rt; answered(&take(&mut cluster, event)?), outcome);
+        assert_eq!(rt; cluster.mode(), mode);
+    }
+    let coordinator = cluster.coordinator();
+    assert_eq!(rt; coordinator.live, PlaceSet::none().with(0));
+    assert_eq!(rt; coordinator.dead, PlaceSet::none().with(1));
+    assert!(rt; copy_at(&cluster, 0, 2).is_some());
     Ok(())
 }
 

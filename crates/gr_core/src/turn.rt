@@ -23,6 +23,16 @@ pub(crate) fn is_over(mode: Mode) -> bool
     }
 }
 
+// A failure was found, and no recovery is open yet.
+pub(crate) fn is_failed(mode: Mode) -> bool
+    ensures { result ≡ modes.is_failed mode }
+{
+    match mode {
+        Mode::Failed => true,
+        _ => false,
+    }
+}
+
 // A round is open.
 pub(crate) fn is_round(mode: Mode) -> bool
     ensures { result ≡ modes.is_round mode }

@@ -1,15 +1,15 @@
-mod Opened
-mod Batches
-mod Parties
-mod Agrees
-mod Anew
-mod Repair
-mod Tables
-mod Places
-mod Returns
-mod Crashes
-mod Discard
-mod Lost
-mod Recovery
-mod Whole
-mod Unopened
+pub mod Opened
+pub mod Batches
+pub mod Parties
+pub mod Agrees
+pub mod Anew
+pub mod Repair
+pub mod Tables
+pub mod Places
+pub mod Returns
+pub mod Crashes
+pub mod Discard
+pub mod Lost
+pub mod Recovery
+pub mod Whole
+pub mod Unopened

@@ -1,16 +1,15 @@
--- What comes next where nobody chooses, in a cluster that runs undisturbed.
-use Rattle.std.proofs.Common.{◌≡◌, ◌<◌, ℕ, List, [], ◌∷◌, length, true, false, refl, ap, ◌∙◌, arith, Option, Some, None}
-use Rattle.std.specs.List.{find}
+-- What comes next where nobody chooses.
+use Rattle.std.proofs.Common.{◌≡◌, ◌<◌, ℕ, List, [], ◌∷◌, length, Bool, true, false, not, ◌&&◌, nat_lt, filter, take, lt-ltb, refl, ap, ◌∙◌, arith, Option, Some, None}
+use Rattle.std.specs.List.{find, list_any}
 use Rattle.gr_base.specs.Places.{below}
-use Rattle.gr_program.specs.Program.{Program, ProgramLaws}
 use Rattle.gr_batch.specs.declared.batch.Batch.{Batch}
 use Rattle.gr_sched.specs.declared.event.Event.TheVariants as event
 use Rattle.gr_view.specs.Modes.{is_over, is_failed}
-use Rattle.gr_cluster.specs.Tables.{Cluster, host}
+use Rattle.gr_cluster.specs.Tables.{Cluster, host, is_up}
+use Rattle.gr_cluster.specs.Step.{down_among}
 use Rattle.gr_cluster.specs.Todo.{can_work}
-use Rattle.gr_cluster.specs.Canonical.{canonical_work, canonical_among, next_canonical}
-use Rattle.gr_law_runs.specs.Undisturbed.{RunsUndisturbed}
-use Rattle.gr_law_left.proofs.Undisturbed.{not-failed}
+use Rattle.gr_cluster.specs.Canonical.{is_crash_unseen, canonical_decision, canonical_work, canonical_among, next_canonical}
+use Rattle.gr_lists.proofs.Tests.{by_test}
 
 module _ {V A : Type 0} (c : Cluster V A) where
   pub canonical-over : is_over c.coordinator.mode ≡ true → None ≡ next_canonical c
@@ -39,7 +38,21 @@ module _ {V A : Type 0} (c : Cluster V A) where
     pub canonical-worker : length c.flight ≡ 0 → (p : ℕ) → Some p ≡ find (λ p. can_work c.coordinator p (host c p)) (below c.places) → Some (event.Work p) ≡ next_canonical c
     canonical-worker none p is = canonical-unsent none (Some p) is
 
-    pub canonical-barrier : (P : Program V A) → ProgramLaws P → RunsUndisturbed P c → length c.flight ≡ 0 → None ≡ find (λ p. can_work c.coordinator p (host c p)) (below c.places) → Some event.Barrier ≡ next_canonical c
-    canonical-barrier P L U none is =
-        let calm : is_failed c.coordinator.mode ≡ false = not-failed P L U.0 c U.1 in
-        rw calm at (canonical-unsent none None is)
+    pub canonical-decided : length c.flight ≡ 0 → None ≡ find (λ p. can_work c.coordinator p (host c p)) (below c.places) → Some (canonical_decision c) ≡ next_canonical c
+    canonical-decided none is = canonical-unsent none None is
+
+any-filter : {X : Type 0} (f : X → Bool) (xs : List X) → nat_lt 0 (length (filter f xs)) ≡ list_any f xs
+any-filter f [] = refl
+any-filter f (x ∷ xs) = by_test (f x) (λ y. rw y (lt-ltb 0 (length (x ∷ filter f xs)) (omega arith))) (λ n. rw n (any-filter f xs))
+
+module _ {V A : Type 0} (c : Cluster V A) where
+  -- a live place that is down is a crash that no barrier has seen
+  pub unseen-down : nat_lt 0 (length (down_among c c.coordinator.live)) ≡ is_crash_unseen c
+  unseen-down = any-filter (λ p. not (is_up c p)) c.coordinator.live
+
+  -- a recovery where something has failed and no crash is unseen, and else a barrier
+  pub decision-recover : (is_failed c.coordinator.mode && not (is_crash_unseen c)) ≡ true → event.Recover (take c.coordinator.spares c.coordinator.dead) ≡ canonical_decision c
+  decision-recover y = rw y refl
+
+  pub decision-barrier : (is_failed c.coordinator.mode && not (is_crash_unseen c)) ≡ false → event.Barrier ≡ canonical_decision c
+  decision-barrier n = rw n refl

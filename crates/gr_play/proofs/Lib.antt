@@ -1,4 +1,5 @@
 pub mod Adding
+pub mod FirstPlaces
 pub mod Following
 pub mod Kept
 pub mod Onward

@@ -1,21 +1,25 @@
-ghost use Rattle.std.specs.Prelude.{◌≡◌, ◌↔◌, false, Some, IsNone, IsTrue};
+ghost use Rattle.std.specs.Prelude.{◌≡◌, ◌↔◌, false, Some, IsNone, IsTrue, take};
 ghost use Rattle.std.specs.List.{find};
 ghost use Rattle.gr_base.specs.Places.{below};
-ghost use Rattle.gr_view.specs.Modes.{is_over};
+ghost use Rattle.gr_view.specs.Modes.{is_over, is_failed, is_rebuild};
 ghost use Rattle.gr_cluster.specs.Tables.{host};
 ghost use Rattle.gr_cluster.specs.Todo.{can_work};
-ghost use Rattle.gr_cluster.specs.Canonical.{next_canonical};
+ghost use Rattle.gr_cluster.specs.Canonical.{canonical_decision, next_canonical};
 
+use gr_base::PlaceSet;
 use gr_core::Cluster;
 use gr_program::VertexProgram;
 use gr_sched::Event;
 use gr_view::Mode;
 
 /// The event that comes next where nobody chooses: the delivery of the first batch in flight; else the work of the least
-/// place that can work; else a barrier. None exactly where the run is over.
+/// place that can work; else, after a failure and where no further live place is down, a recovery with a spare for each
+/// of the first dead places; else a barrier. None exactly where the run is over. It is not asked yet while a recovery or
+/// a repair is open.
 ///
 /// It takes no memory, and for each place the time to look at its inbox.
 pub fn next_canonical<P: VertexProgram>(cluster: &Cluster<P>) -> Option<Event>
+    requires { is_rebuild cluster.now.cluster.coordinator.mode ≡ false }
     ensures event { result ≡ next_canonical cluster.now.cluster }
     ensures none { IsNone result ↔ IsTrue (is_over cluster.now.cluster.coordinator.mode) }
 {
@@ -27,22 +31,61 @@ pub fn next_canonical<P: VertexProgram>(cluster: &Cluster<P>) -> Option<Event>
 
 // The event that comes next in a run that is not over.
 fn next_event<P: VertexProgram>(cluster: &Cluster<P>) -> Event
-    requires { is_over cluster.now.cluster.coordinator.mode ≡ false }
+    requires going { is_over cluster.now.cluster.coordinator.mode ≡ false }
+    requires no_rebuild { is_rebuild cluster.now.cluster.coordinator.mode ≡ false }
     ensures { Some result ≡ next_canonical cluster.now.cluster }
 {
-    // A look at the mode tells that nothing disturbs the cluster.
-    let _mode = cluster.mode();
     if cluster.flight_len() > 0 {
         return Event::Deliver(0);
     }
     match first_worker(cluster) {
         Some(p) => Event::Work(p),
-        None => Event::Barrier,
+        None => decision(cluster),
     }
+}
+
+// What is asked of the coordinator: after a failure a recovery, unless a further live place is down, and else a barrier.
+fn decision<P: VertexProgram>(cluster: &Cluster<P>) -> Event
+    ensures { result ≡ canonical_decision cluster.now.cluster }
+{
+    let coordinator = cluster.coordinator();
+    let unseen = cluster.down_among(coordinator.live).count() > 0;
+    if is_failed(coordinator.mode) & !unseen {
+        Event::Recover(first_places(coordinator.dead, coordinator.spares))
+    } else {
+        Event::Barrier
+    }
+}
+
+// A failure was found, and no recovery is open yet.
+fn is_failed(mode: Mode) -> bool
+    ensures { result ≡ is_failed mode }
+{
+    match mode {
+        Mode::Failed => true,
+        _ => false,
+    }
+}
+
+// The first places of a set, at most so many.
+fn first_places(places: PlaceSet, count: u8) -> PlaceSet
+    ensures { result ≡ take count places }
+{
+    let _known = places.has(0);
+    let mut first = PlaceSet::none();
+    let mut left = count;
+    for p in 0..64 {
+        if places.has(p) & (left > 0) {
+            first = first.with(p);
+            left -= 1;
+        }
+    }
+    first
 }
 
 // The least place that can work.
 fn first_worker<P: VertexProgram>(cluster: &Cluster<P>) -> Option<u8>
+    requires { is_rebuild cluster.now.cluster.coordinator.mode ≡ false }
     ensures { result ≡ find (λ p. can_work cluster.now.cluster.coordinator p (host cluster.now.cluster p)) (below cluster.now.cluster.places) }
 {
     for p in 0..cluster.places() {

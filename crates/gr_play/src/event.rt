@@ -5,7 +5,7 @@ ghost use Rattle.gr_sched.specs.declared.event.Event.TheVariants as kind;
 ghost use Rattle.gr_report.specs.Goes.{goes_with};
 ghost use Rattle.gr_report.specs.Trace.{outcome_line};
 ghost use Rattle.gr_cluster.specs.Runs.{is_commit};
-ghost use Rattle.gr_law_runs.specs.Undisturbed.{is_plain};
+ghost use Rattle.gr_law_runs.specs.Undisturbed.{is_plain, RunsUndisturbed};
 ghost use Rattle.gr_play.specs.Progress.{PlaysEvent, FailsBefore, FailsAfter};
 ghost use Rattle.gr_play.specs.Room.{HasRoom};
 ghost use Rattle.gr_play.specs.Tracing.{Adds};
@@ -30,6 +30,7 @@ pub(crate) fn play_event<P: VertexProgram, F: Files>(
     traced: bool,
     steps: &mut u64,
 ) -> Result<bool, Stop>
+    requires undisturbed { RunsUndisturbed (P.program_of cluster.old.program) cluster.old.cluster }
     requires plain { IsTrue (is_plain event) }
     requires place { (p : ℕ) → event ≡ kind.Work p → p < cluster.old.cluster.places }
     requires room { HasRoom cluster.old.cluster steps.old }

@@ -26,7 +26,8 @@ use std::alloc::Global;
 /// is begun, and the line of each step is appended as soon as the step is taken.
 ///
 /// `settle` plays canonical events through the next commit, and `finish` until the run is over. After `TraceFault` and
-/// `NoMemory` the cluster is the one after the counted steps.
+/// `NoMemory` the cluster is the one after the counted steps. It plays in a cluster in which no place has failed, and no
+/// lines yet by which one does.
 pub fn play<P: VertexProgram, F: Files>(
     alloc: Global,
     cluster: &mut Cluster<P>,
@@ -36,6 +37,7 @@ pub fn play<P: VertexProgram, F: Files>(
     steps: &mut u64,
 ) -> Ending
     requires none_yet { steps.old ≡ 0 }
+    requires undisturbed { RunsUndisturbed (P.program_of cluster.old.program) cluster.old.cluster }
     requires lines { length schedule.now ≤ 200000 }
     requires plain { All (λ l. IsTrue (is_plain_line l)) schedule.now }
     requires places { All (λ l. IsTrue (are_below cluster.old.cluster.places (places_of l))) schedule.now }
@@ -58,7 +60,7 @@ pub fn play<P: VertexProgram, F: Files>(
     ensures untraced { IsNone trace.entry → F.seen files.new ≡ F.seen files.old }
     ensures loads { CountsNoLoad (F.seen files.old) (F.seen files.new) }
 {
-    // A look at the limit tells that it has 32 bits, and that nothing disturbs the cluster.
+    // A look at the limit tells that it has 32 bits.
     let _limit = limit_of(cluster);
     if let Err(stop) = begin_trace(alloc, files, trace) {
         return stopped(stop);
@@ -71,10 +73,8 @@ pub fn play<P: VertexProgram, F: Files>(
 
 // The limit of rounds.
 fn limit_of<P: VertexProgram>(cluster: &Cluster<P>) -> u32
-    ensures limit { result ≡ cluster.now.cluster.coordinator.limit }
-    ensures undisturbed { RunsUndisturbed (P.program_of cluster.now.program) cluster.now.cluster }
+    ensures { result ≡ cluster.now.cluster.coordinator.limit }
 {
-    let _mode = cluster.mode();
     cluster.coordinator().limit
 }
 
@@ -99,6 +99,7 @@ fn begin_trace<F: Files>(alloc: Global, files: &mut F, trace: Option<&str>) -> R
 
 // How the run of a cluster has ended.
 fn ending<P: VertexProgram>(cluster: &Cluster<P>) -> Ending
+    requires { RunsUndisturbed (P.program_of cluster.now.program) cluster.now.cluster }
     ensures { told_by result ≡ Some (ending_of cluster.now.cluster) }
 {
     match cluster.mode() {

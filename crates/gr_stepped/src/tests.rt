@@ -2,6 +2,7 @@
 mod stepped;
 mod texts;
 
+use gr_base::PlaceSet;
 use gr_min::Shortest;
 use gr_sched::Event;
 use gr_sum::{InDegree, Rank};
@@ -309,5 +310,76 @@ fn an_event_that_is_not_enabled_changes_nothing(rt: HostRuntime) -> Result<(), F
         assert_eq!(rt; lines.as_slice(), line);
     }
     assert_eq!(rt; run.copies(2)?.as_slice(), loaded.as_slice());
+    Ok(())
+}
+
+#[test]
+fn a_vertex_is_lost_with_its_last_holder(rt: HostRuntime) -> Result<(), Fail> {
+    let mut run = Stepped::load(
+        rt.alloc(),
+        b"0 1\n1 2\n0 2",
+        b"places = 3\nprogram = \"shortest\"\nsource = 0\n",
+        Shortest { source: 0 },
+    )?;
+    let recover = Event::Recover(PlaceSet::none());
+    let mut lines = Vec::new(rt.alloc());
+    for event in [
+        recover,
+        Event::Crash(0, 0),
+        Event::Crash(2, 7),
+        Event::Work(0),
+        Event::Barrier,
+        Event::Work(1),
+        recover,
+        Event::Repair,
+    ] {
+        run.take(event, &mut lines)?;
+    }
+    let told = b"recover idle
+crash 0 kept 0
+crash 2 kept 0
+work 0 idle
+barrier failed 0 2
+work 1 adopt 1
+recover lost 1
+repair idle
+";
+    assert_eq!(rt; lines.as_slice(), told.as_slice());
+    assert_eq!(rt; run.results()?.as_slice(), b"lost 1\n2\n".as_slice());
+    Ok(())
+}
+
+#[test]
+fn a_round_that_was_dropped_is_begun_anew(rt: HostRuntime) -> Result<(), Fail> {
+    let mut run = Stepped::load(
+        rt.alloc(),
+        b"0 1\n1 2\n0 2",
+        b"places = 2\nprogram = \"shortest\"\nsource = 0\n",
+        Shortest { source: 0 },
+    )?;
+    run.settle()?;
+    let mut lines = Vec::new(rt.alloc());
+    for event in [
+        Event::Discard,
+        Event::Work(0),
+        Event::Work(0),
+        Event::Repair,
+        Event::Work(0),
+        Event::Discard,
+    ] {
+        run.take(event, &mut lines)?;
+    }
+    let told = b"discard epoch 2
+work 0 install 1
+work 0 adopt 2
+repair epoch 3
+discard epoch 4
+";
+    assert_eq!(rt; lines.as_slice(), told.as_slice());
+    run.settle()?;
+    assert_eq!(rt;
+        run.results()?.as_slice(),
+        b"done 2 3\n0 0\n1 1\n2 1\n".as_slice()
+    );
     Ok(())
 }

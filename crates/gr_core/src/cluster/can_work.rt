@@ -1,4 +1,5 @@
-ghost use Rattle.std.specs.Prelude.{◌≡◌, ◌<◌, Some};
+ghost use Rattle.std.specs.Prelude.{◌≡◌, ◌<◌, false, Some};
+ghost use Rattle.gr_view.specs.Modes.{is_rebuild};
 ghost use Rattle.gr_rules.specs.Todo.{is_act};
 ghost use Rattle.gr_cluster.specs.Tables.{Host as Held, host};
 ghost use Rattle.gr_cluster.specs.Todo.{can_work};
@@ -12,9 +13,11 @@ use gr_round::RoundView;
 
 impl<P: VertexProgram> Cluster<P> {
     /// Whether the next work of a place does something: its outcome is neither that it waits nor that it is idle. It
-    /// takes no memory, and time in proportion to the batches in the inbox of the place.
+    /// takes no memory, and time in proportion to the batches in the inbox of the place. It is not asked yet while a
+    /// recovery or a repair is open.
     pub fn can_work(&self, p: u8) -> bool
-        requires { p < self.now.cluster.places }
+        requires place { p < self.now.cluster.places }
+        requires no_rebuild { is_rebuild self.now.cluster.coordinator.mode ≡ false }
         ensures { result ≡ can_work self.now.cluster.coordinator p (host self.now.cluster p) }
     {
         if is_over(self.coordinator.mode) {

@@ -47,7 +47,7 @@ impl<P: VertexProgram> Cluster<P> {
         ensures ok { IfOk result (λ outcome. (self.new.cluster, outcome) ≡ step (P.program_of self.old.program) self.old.cluster (event.Work p)) }
         ensures program { self.new.program ≡ self.old.program }
         ensures err { OnErr result (self.new ≡ self.old) }
-        ensures told { takes_memory (step (P.program_of self.old.program) self.old.cluster (event.Work p)).1 ≡ false → IsOk result }
+        ensures told { takes_memory (event.Work p) (step (P.program_of self.old.program) self.old.cluster (event.Work p)).1 ≡ false → IsOk result }
     {
         match self.turn_at(p) {
             Turn::Rest => Ok(self.rest_at(p)),
@@ -115,7 +115,7 @@ impl<P: VertexProgram> Cluster<P> {
         ensures ok { IfOk result (λ outcome. (self.new.cluster, outcome) ≡ step (P.program_of self.old.program) self.old.cluster (event.Work p)) }
         ensures program { self.new.program ≡ self.old.program }
         ensures err { OnErr result (self.new ≡ self.old) }
-        ensures told { takes_memory (step (P.program_of self.old.program) self.old.cluster (event.Work p)).1 ≡ false → IsOk result }
+        ensures told { takes_memory (event.Work p) (step (P.program_of self.old.program) self.old.cluster (event.Work p)).1 ≡ false → IsOk result }
     {
         act_in_round(
             self.alloc,

@@ -1,15 +1,16 @@
 // A cluster that counts the steps that it takes, and tells each.
-ghost use Rattle.std.specs.Prelude.{ℕ, ◌≡◌, ◌+◌, ◌<◌, ◌≤◌, length, true, IsTrue};
+ghost use Rattle.std.specs.Prelude.{ℕ, ◌≡◌, ◌+◌, ◌<◌, ◌≤◌, List, [], length, true, false, IsTrue};
 ghost use Rattle.gr_sched.specs.declared.event.Event.TheVariants as kind;
-ghost use Rattle.gr_law_runs.specs.Undisturbed.{is_plain};
+ghost use Rattle.gr_view.specs.Modes as modes;
+ghost use Rattle.gr_law_events.specs.Law.{drives};
 
-use gr_base::{OutOfMemory, push_number};
+use gr_base::{OutOfMemory, PlaceSet, push_number};
 use gr_core::Cluster;
 use gr_edges::read_graph;
 use gr_job::read_job;
 use gr_play::next_canonical;
 use gr_program::{Datum, VertexCopy, VertexProgram};
-use gr_report::{push_outcome, push_results};
+use gr_report::{push_lost, push_outcome, push_results};
 use gr_sched::Event;
 use gr_view::Mode;
 use std::alloc::Global;
@@ -47,15 +48,21 @@ impl<P: VertexProgram> Stepped<P> {
         })
     }
 
-    // Whether an event disturbs nothing, and is of a place that there is.
+    // Whether the cluster serves an event: it is of a place that there is, names none to be reborn, and brings no rebuild
+    // on.
     fn may_take(&self, event: Event) -> bool
-        ensures plain { result ≡ true → IsTrue (is_plain event) }
-        ensures place { result ≡ true → (p : ℕ) → event ≡ kind.Work p → p < self.now.cluster.cluster.places }
+        ensures rebuild { result ≡ true → IsTrue (modes.is_rebuild self.now.cluster.cluster.coordinator.mode) → drives event ≡ false }
+        ensures rebirth { result ≡ true → (ps : List ℕ) → event ≡ kind.Recover ps → ps ≡ [] }
+        ensures worker { result ≡ true → (p : ℕ) → event ≡ kind.Work p → p < self.now.cluster.cluster.places }
+        ensures crashed { result ≡ true → (p n : ℕ) → event ≡ kind.Crash p n → p < self.now.cluster.cluster.places }
     {
+        let rebuild = is_rebuild(self.cluster.mode());
         match event {
-            Event::Work(p) => p < self.cluster.places(),
-            Event::Deliver(_) | Event::Discarded(_) | Event::Barrier => true,
-            _ => false,
+            Event::Work(p) => (p < self.cluster.places()) & !rebuild,
+            Event::Crash(p, _) => p < self.cluster.places(),
+            Event::Barrier => !rebuild,
+            Event::Recover(places) => places == PlaceSet::none(),
+            _ => true,
         }
     }
 
@@ -74,6 +81,9 @@ impl<P: VertexProgram> Stepped<P> {
     pub(crate) fn settle(&mut self) -> Result<Vec<u8>, OutOfMemory> {
         let mut lines = Vec::new(self.alloc);
         for _ in 0..1000 {
+            if is_rebuild(self.cluster.mode()) {
+                break;
+            }
             match next_canonical(&self.cluster) {
                 Some(event) => {
                     let is_barrier = matches!(event, Event::Barrier);
@@ -105,7 +115,7 @@ impl<P: VertexProgram> Stepped<P> {
         Ok(text)
     }
 
-    /// The results, once the run is done, and else nothing.
+    /// The results, once the run is done, the lost vertices, once it has lost some, and else nothing.
     pub(crate) fn results(&self) -> Result<Vec<u8>, OutOfMemory> {
         let mut text = Vec::new(self.alloc);
         match self.cluster.mode() {
@@ -118,9 +128,23 @@ impl<P: VertexProgram> Stepped<P> {
                     values.as_slice(),
                 )?;
             }
+            Mode::Lost => {
+                let vertices = self.cluster.lost_list()?;
+                push_lost(self.alloc, &mut text, vertices.as_slice())?;
+            }
             _ => {}
         }
         Ok(text)
+    }
+}
+
+// Whether a recovery or a repair is open.
+fn is_rebuild(mode: Mode) -> bool
+    ensures { result ≡ modes.is_rebuild mode }
+{
+    match mode {
+        Mode::Recovering | Mode::Repairing => true,
+        _ => false,
     }
 }
 
@@ -131,8 +155,10 @@ fn step<P: VertexProgram>(
     event: Event,
     lines: &mut Vec<u8>,
 ) -> Result<(), OutOfMemory>
-    requires plain { IsTrue (is_plain event) }
-    requires place { (p : ℕ) → event ≡ kind.Work p → p < cluster.old.cluster.places }
+    requires rebuild { IsTrue (modes.is_rebuild cluster.old.cluster.coordinator.mode) → drives event ≡ false }
+    requires rebirth { (ps : List ℕ) → event ≡ kind.Recover ps → ps ≡ [] }
+    requires worker { (p : ℕ) → event ≡ kind.Work p → p < cluster.old.cluster.places }
+    requires crashed { (p n : ℕ) → event ≡ kind.Crash p n → p < cluster.old.cluster.places }
     requires serial { cluster.old.cluster.serial < 1000000 }
     requires epoch { cluster.old.cluster.coordinator.epoch < 1000000 }
     requires commits { cluster.old.cluster.coordinator.commits < 1000000 }

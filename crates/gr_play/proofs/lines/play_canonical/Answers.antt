@@ -1,6 +1,8 @@
 use Rattle.std.proofs.Common.{◌≡◌, ◌∙◌, refl, sym, ap, subst, Some, Err, ◌⊎◌}
 use Rattle.gr_batch.specs.Telling.{telling}
 use Rattle.gr_cluster.specs.Canonical.{next_canonical}
+use Rattle.gr_law_runs.specs.Undisturbed.{RunsUndisturbed}
+use Rattle.gr_law_runs.proofs.Plain.{no-rebuild}
 use Rattle.gr_law_left.proofs.Undisturbed.{canonical-is}
 use Rattle.gr_play.specs.declared.stop.Stop.TheVariants as stop
 use Rattle.gr_play.specs.Progress.{PlaysEvent, FailsBefore, FailsAfter}
@@ -232,3 +234,10 @@ returns g c =
       places = G.onward.places;
       fault = λ f. absurd (cc);
     }
+
+pub next_canonical-requires : goal.next_canonical-requires
+next_canonical-requires g c = (no-rebuild c.canonical.cluster.cluster.coordinator.mode ((c.canonical.invariant.going).onward.undisturbed.1).mode).0
+
+pub play_event-requires-clause-undisturbed : goal.play_event-requires-clause-undisturbed
+play_event-requires-clause-undisturbed g c =
+    subst (λ Q. RunsUndisturbed Q c.canonical.cluster.cluster) (sym (ap g.P.VertexProgram.program_of c.canonical.invariant.program)) (c.canonical.invariant.going).onward.undisturbed

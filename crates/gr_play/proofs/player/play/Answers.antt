@@ -2,6 +2,7 @@ use Rattle.std.proofs.Common.{◌∙◌, ◌+◌, sym, ap, subst, arith, length,
 use Rattle.std.specs.Prelude.{IfSome}
 use Rattle.std.specs.Option.{option_copied}
 use Rattle.gr_batch.specs.Telling.{telling}
+use Rattle.gr_law_runs.specs.Undisturbed.{RunsUndisturbed}
 use Rattle.gr_play.specs.Playing.{start, Plays}
 use Rattle.gr_play.specs.Tracing.{text_of_steps, TracesPart, Adds}
 use Rattle.gr_play.proofs.Adding.{part-traced}
@@ -16,17 +17,14 @@ returns-in-Err-clause-steps g c =
     let s = start c.args.cluster.now.cluster c.args.schedule.now in
     subst (λ n. Plays P s n c.args.cluster.now.cluster) (sym c.requires.none_yet) (Plays-nothing P s)
 
-pub play_lines-requires-clause-undisturbed : goal.play_lines-requires-clause-undisturbed
-play_lines-requires-clause-undisturbed g c = c.limit_of-limit.ensures.undisturbed
-
 pub play_lines-requires-clause-room : goal.play_lines-requires-clause-room
 play_lines-requires-clause-room g c =
     let P = g.P.VertexProgram.program_of c.args.cluster.now.program in
     let L = g.met.P.VertexProgram.laws c.args.cluster.now.program in
     let k = c.args.cluster.now.cluster in
     let R = c.requires in
-    HasRoomFor-start P L k c.limit_of-limit.ensures.undisturbed c.args.steps.now (length c.args.schedule.now) R.none_yet R.lines
-    (omega (arith, c.limit_of-limit.ensures.limit, c.limit_of-limit.type_inv)) R.flight R.serial R.epoch R.commits
+    HasRoomFor-start P L k R.undisturbed c.args.steps.now (length c.args.schedule.now) R.none_yet R.lines
+    (omega (arith, c.limit_of-limit.ensures, c.limit_of-limit.type_inv)) R.flight R.serial R.epoch R.commits
 
 pub returns-in-Ok-clause-whole : goal.returns-in-Ok-clause-whole
 returns-in-Ok-clause-whole g c = λ _.
@@ -48,3 +46,7 @@ returns-in-Err-play_lines-clause-part g c = λ _.
     let added = subst (λ t. Adds t m b (take E.part (text_of_steps P T s E.taken))) c.is_some.ensures E.added in
     subst (λ n. IfSome (option_copied c.args.trace) (λ name. TracesPart (g.F.Files.seen c.args.files.now) b name (text_of_steps P T s n))) (sym counted)
     (part-traced c.args.trace (g.F.Files.seen c.args.files.now) m b E.part (text_of_steps P T s E.taken) begun is added)
+
+pub ending-requires : goal.ending-requires
+ending-requires g c =
+    subst (λ Q. RunsUndisturbed Q c.play_lines.new.cluster.cluster) (sym (ap g.P.VertexProgram.program_of c.in-Ok.ensures.program)) c.in-Ok.ensures.undisturbed

@@ -10,28 +10,28 @@ use Rattle.imitate.proofs.played.play_program.Goals as goal
 pub play-ending-requires-clause-places : goal.play-ending-requires-clause-places
 play-ending-requires-clause-places g c =
     let work = c.args.accepted.now.work in
-    let fresh = loaded-fresh (g.P.VertexProgram.program_of c.args.program) (setting_of work.job) work.graph.edges (ids work.graph.vertices) c.args.program c.in-Ok.cluster c.in-Ok.ensures in
+    let fresh = loaded-fresh (g.P.VertexProgram.program_of c.args.program) (setting_of work.job) work.graph.edges (ids work.graph.vertices) c.args.program c.in-Ok.cluster c.in-Ok.ensures.cluster in
     rw (fresh.places_are, c.as_slice.ensures) c.requires.placed
 
 pub play-ending-requires-clause-flight : goal.play-ending-requires-clause-flight
 play-ending-requires-clause-flight g c =
     let work = c.args.accepted.now.work in
-    (loaded-fresh (g.P.VertexProgram.program_of c.args.program) (setting_of work.job) work.graph.edges (ids work.graph.vertices) c.args.program c.in-Ok.cluster c.in-Ok.ensures).flight
+    (loaded-fresh (g.P.VertexProgram.program_of c.args.program) (setting_of work.job) work.graph.edges (ids work.graph.vertices) c.args.program c.in-Ok.cluster c.in-Ok.ensures.cluster).flight
 
 pub play-ending-requires-clause-serial : goal.play-ending-requires-clause-serial
 play-ending-requires-clause-serial g c =
     let work = c.args.accepted.now.work in
-    (loaded-fresh (g.P.VertexProgram.program_of c.args.program) (setting_of work.job) work.graph.edges (ids work.graph.vertices) c.args.program c.in-Ok.cluster c.in-Ok.ensures).serial
+    (loaded-fresh (g.P.VertexProgram.program_of c.args.program) (setting_of work.job) work.graph.edges (ids work.graph.vertices) c.args.program c.in-Ok.cluster c.in-Ok.ensures.cluster).serial
 
 pub play-ending-requires-clause-epoch : goal.play-ending-requires-clause-epoch
 play-ending-requires-clause-epoch g c =
     let work = c.args.accepted.now.work in
-    (loaded-fresh (g.P.VertexProgram.program_of c.args.program) (setting_of work.job) work.graph.edges (ids work.graph.vertices) c.args.program c.in-Ok.cluster c.in-Ok.ensures).epoch
+    (loaded-fresh (g.P.VertexProgram.program_of c.args.program) (setting_of work.job) work.graph.edges (ids work.graph.vertices) c.args.program c.in-Ok.cluster c.in-Ok.ensures.cluster).epoch
 
 pub play-ending-requires-clause-commits : goal.play-ending-requires-clause-commits
 play-ending-requires-clause-commits g c =
     let work = c.args.accepted.now.work in
-    (loaded-fresh (g.P.VertexProgram.program_of c.args.program) (setting_of work.job) work.graph.edges (ids work.graph.vertices) c.args.program c.in-Ok.cluster c.in-Ok.ensures).commits
+    (loaded-fresh (g.P.VertexProgram.program_of c.args.program) (setting_of work.job) work.graph.edges (ids work.graph.vertices) c.args.program c.in-Ok.cluster c.in-Ok.ensures.cluster).commits
 
 pub returns-in-Ok-tell-clause-done : goal.returns-in-Ok-tell-clause-done
 returns-in-Ok-tell-clause-done g c =
@@ -40,7 +40,7 @@ returns-in-Ok-tell-clause-done g c =
     let s = setting_of work.job in
     let vs = ids work.graph.vertices in
     let small : work.job.theta < 2 ^ 32 = omega arith in
-    let plays = rw (c.in-Ok.ensures, c.as_slice.ensures) at c.play-ending.ensures.steps in
+    let plays = rw (c.in-Ok.ensures.cluster, c.as_slice.ensures) at c.play-ending.ensures.steps in
     done-text P (g.met.P.VertexProgram.laws c.args.program) s work.graph.edges vs (setting-is work.job small)
     (graph-is work.graph c.requires.ids_fit c.requires.few_edges c.requires.few_vertices) c.args.accepted.now.lines c.requires.plain g.P.Value.Datum.text_of
     c.play-ending.new.steps c.play-ending.new.cluster.cluster (told_by c.play-ending.result) c.in-Ok-tell.told.ended c.in-Ok-tell.told.text.items plays c.in-Ok-tell.ensures.ended
@@ -52,8 +52,8 @@ returns-clause-run g c =
     let begin = start (load P (setting_of work.job) work.graph.edges (ids work.graph.vertices)) c.args.accepted.now.lines in
     let files = g.F.Files.seen c.args.files.now in
     let files' = g.F.Files.seen c.play-ending.new.files in
-    let traced = rw (c.in-Ok.ensures, c.as_slice.ensures) at c.play-ending.ensures.traced in
-    let part = rw (c.in-Ok.ensures, c.as_slice.ensures) at c.play-ending.ensures.part in
+    let traced = rw (c.in-Ok.ensures.cluster, c.as_slice.ensures) at c.play-ending.ensures.traced in
+    let part = rw (c.in-Ok.ensures.cluster, c.as_slice.ensures) at c.play-ending.ensures.part in
     record {
       played = tt;
       unplayed = is-unplayed files files' c.args.trace.now (chosen P g.P.Value.Datum.text_of g.P.Value.Datum.numbers_of g.P.Acc.Datum.numbers_of) begin c.play-ending.new.steps

@@ -4,7 +4,7 @@ use Rattle.gr_view.specs.Modes.{is_over}
 use Rattle.gr_cluster.specs.Tables.{Cluster}
 use Rattle.gr_cluster.specs.Step.{step}
 use Rattle.gr_core.proofs.Network.{IfOk-delivered, OnErr-kept, flight-fresh}
-use Rattle.gr_core.proofs.Undisturbed.{runs-on, runs-stepped}
+use Rattle.gr_core.proofs.Kept.{keeps-besides, keeps-stepped}
 use Rattle.gr_core.proofs.cluster.Cluster.deliver.Goals as goal
 
 pub deliver_from-requires : goal.deliver_from-requires
@@ -12,7 +12,7 @@ deliver_from-requires g c = record {
   fresh = λ b is.
       let s = c.self.inside in
       let k : Cluster g.row.P-Value.Denot g.row.P-Acc.Denot = record { hosts = s.hosts.items; logs = s.logs.items; flight = s.flight; serial = s.serial; coordinator = s.coordinator; places = s.places; losses = s.losses; theta = s.theta } in
-      flight-fresh (g.P.VertexProgram.program_of s.program) k c.args.i b c.self.invariant.0 (c.self.invariant.1).agrees is;
+      flight-fresh (g.P.VertexProgram.program_of s.program) k c.args.i b c.self.invariant.state c.self.invariant.holds is;
 }
 
 pub invariant_of-self : goal.invariant_of-self
@@ -24,10 +24,10 @@ invariant_of-self g c =
     let hs = c.deliver_from.new.hosts.items in
     let fl = c.deliver_from.new.flight in
     let over : is_over k.coordinator.mode ≡ false = ap (λ x. is_over x.cluster.coordinator.mode) c.self.view_is ∙ c.requires in
-    runs-stepped P k (record k { hosts = hs; flight = fl }) (step P k (event.Deliver c.args.i)) r
+    keeps-stepped P k (record k { hosts = hs; flight = fl }) (step P k (event.Deliver c.args.i)) r
     (IfOk-delivered P k c.args.i r hs fl over c.deliver_from.ensures.ok)
     (OnErr-kept P k c.args.i r hs fl c.deliver_from.ensures.hosts_kept c.deliver_from.ensures.flight_kept)
-    c.self.invariant (runs-on P (g.met.P.VertexProgram.laws s.program) k c.self.invariant (event.Deliver c.args.i) refl)
+    c.self.invariant (keeps-besides P (g.met.P.VertexProgram.laws s.program) k c.self.invariant (event.Deliver c.args.i) tt tt refl)
 
 pub returns-clause-ok : goal.returns-clause-ok
 returns-clause-ok g c =

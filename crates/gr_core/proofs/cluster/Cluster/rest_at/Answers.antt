@@ -15,4 +15,4 @@ returns g c =
     let over : is_over k.coordinator.mode ≡ false = ap (λ x. is_over x.cluster.coordinator.mode) c.self.view_is ∙ c.requires.going in
     let none : is_rebuild k.coordinator.mode ≡ false = ap (λ x. is_rebuild x.cluster.coordinator.mode) c.self.view_is ∙ c.requires.no_rebuild in
     let next : turn_of k.coordinator (host k p) ≡ turn.Rest = ap (λ x. turn_of x.cluster.coordinator (host x.cluster p)) c.self.view_is ∙ c.requires.turn in
-    rw (← c.self.view_is) (rest-step P (g.met.P.VertexProgram.laws s.program) c.self.invariant.0 k (c.self.invariant.1).agrees over none p next)
+    rw (← c.self.view_is) (rest-step P (g.met.P.VertexProgram.laws s.program) c.self.invariant.state k c.self.invariant.holds over none p next)

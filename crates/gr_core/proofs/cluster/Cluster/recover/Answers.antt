@@ -1,0 +1,50 @@
+use Rattle.std.proofs.Common.{◌≡◌, ◌∙◌, [], false, refl, sym, ap, subst, arith, length, nat_lt}
+use Rattle.gr_base.specs.Places.{IsPlaces}
+use Rattle.gr_base.proofs.Rising.{rises-nil}
+use Rattle.gr_sched.specs.declared.event.Event.TheVariants as event
+use Rattle.gr_view.specs.declared.coordinator.Coordinator.{Coordinator}
+use Rattle.gr_view.specs.declared.coordinator.Opening.{Opening}
+use Rattle.gr_view.specs.Modes.{is_over, is_failed}
+use Rattle.gr_view.specs.Decisions.{at_recovery}
+use Rattle.gr_cluster.specs.Tables.{Cluster}
+use Rattle.gr_cluster.specs.Step.{lost_list, step}
+use Rattle.gr_core.specs.Tables.{Agrees}
+use Rattle.gr_core.proofs.Kept.{keeps-besides}
+use Rattle.gr_core.proofs.Orders.{recover-step, recover-idle}
+use Rattle.gr_core.proofs.cluster.Cluster.recover.Goals as goal
+
+pub returns-then-not-is_failed-clause-ok : goal.returns-then-not-is_failed-clause-ok
+returns-then-not-is_failed-clause-ok g c =
+    let t = c.args.self.now in
+    let well : is_failed t.cluster.coordinator.mode ≡ false = ap (λ x. is_failed x.cluster.coordinator.mode) (sym c.self.view_is) ∙ (sym c.is_failed.ensures ∙ c.if-not-is_failed.true) in
+    recover-idle (g.P.VertexProgram.program_of t.program) t.cluster c.requires.going well c.args.rebirth
+
+no-places : IsPlaces []
+no-places = record { rise = rises-nil (λ p. p); below = λ k d l. absurd (omega arith) }
+
+pub invariant_of-self : goal.invariant_of-self
+invariant_of-self g c =
+    let s = c.self.inside in
+    let P = g.P.VertexProgram.program_of s.program in
+    let k : Cluster g.row.P-Value.Denot g.row.P-Acc.Denot = record { hosts = s.hosts.items; logs = s.logs.items; flight = s.flight; serial = s.serial; coordinator = s.coordinator; places = s.places; losses = s.losses; theta = s.theta } in
+    let over : is_over k.coordinator.mode ≡ false = ap (λ x. is_over x.cluster.coordinator.mode) c.self.view_is ∙ c.requires.going in
+    let n = c.len-lost.result in
+    let x : Coordinator × Opening = (c.open_recovery-opening.new.self, c.open_recovery-opening.result) in
+    let many : n ≡ length (lost_list k) = c.len-lost.ensures ∙ (ap length c.in_ok-lost.ensures.list ∙ ap (λ x. length (lost_list x.cluster)) (sym c.self.view_is)) in
+    let decision : x ≡ at_recovery k.coordinator [] (nat_lt 0 n) = c.open_recovery-opening.ensures.decision ∙ ap (λ ps. at_recovery k.coordinator ps (nat_lt 0 n)) c.requires.none in
+    let is = recover-step P k over n x many decision in
+    let told = ap (λ o. (record k { coordinator = c.open_recovery-opening.new.self }, o)) c.opened.ensures ∙ is in
+    subst (λ y. Agrees P y.0) (sym told) (keeps-besides P (g.met.P.VertexProgram.laws s.program) k c.self.invariant (event.Recover []) no-places refl refl)
+
+pub returns-clause-ok : goal.returns-clause-ok
+returns-clause-ok g c =
+    let s = c.self.inside in
+    let P = g.P.VertexProgram.program_of s.program in
+    let k : Cluster g.row.P-Value.Denot g.row.P-Acc.Denot = record { hosts = s.hosts.items; logs = s.logs.items; flight = s.flight; serial = s.serial; coordinator = s.coordinator; places = s.places; losses = s.losses; theta = s.theta } in
+    let over : is_over k.coordinator.mode ≡ false = ap (λ x. is_over x.cluster.coordinator.mode) c.self.view_is ∙ c.requires.going in
+    let n = c.len-lost.result in
+    let x : Coordinator × Opening = (c.open_recovery-opening.new.self, c.open_recovery-opening.result) in
+    let many : n ≡ length (lost_list k) = c.len-lost.ensures ∙ (ap length c.in_ok-lost.ensures.list ∙ ap (λ x. length (lost_list x.cluster)) (sym c.self.view_is)) in
+    let decision : x ≡ at_recovery k.coordinator [] (nat_lt 0 n) = c.open_recovery-opening.ensures.decision ∙ ap (λ ps. at_recovery k.coordinator ps (nat_lt 0 n)) c.requires.none in
+    let is = recover-step P k over n x many decision in
+    rw (← c.self.view_is) (ap (λ o. (record k { coordinator = c.open_recovery-opening.new.self }, o)) c.opened.ensures ∙ (is ∙ ap (λ ps. step P k (event.Recover ps)) (sym c.requires.none)))

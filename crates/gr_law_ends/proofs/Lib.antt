@@ -1,0 +1,12 @@
+pub mod Events
+pub mod Runs
+pub mod Found
+pub mod Results
+pub mod Directory
+pub mod Ends
+pub mod Losses
+pub mod Quiet
+pub mod Serving
+pub mod Budget
+pub mod FirstHolders
+pub mod Within

@@ -1,0 +1,9 @@
+pub mod Granted
+pub mod Line
+pub mod Lists
+pub mod Logs
+pub mod Others
+pub mod Rebuild
+pub mod Repair
+pub mod Rows
+pub mod Taken

@@ -1,0 +1,12 @@
+pub mod Commit
+pub mod Edges
+pub mod Fits
+pub mod Granter
+pub mod Holders
+pub mod Items
+pub mod Layers
+pub mod Parties
+pub mod Ready
+pub mod Records
+pub mod Restored
+pub mod Takers
