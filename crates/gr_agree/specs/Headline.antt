@@ -1,8 +1,8 @@
 -- What is to be proved of every whole run from load.
-use Rattle.std.specs.Prelude.{ℕ, ◌≡◌, ◌≢◌, ◌⊎◌, List, [], ◌∷◌, ◌++◌, map, ⊤}
-use Rattle.std.specs.List.{filter, AllByRecursion as Each}
+use Rattle.std.specs.Prelude.{ℕ, ◌≡◌, ◌≢◌, ◌⊎◌, false, not, IsTrue, List, [], ◌∷◌, ◌++◌, map, ⊤}
+use Rattle.std.specs.List.{filter, list_any, AllByRecursion as Each}
 use Rattle.gr_base.specs.declared.records.Edge.{Edge}
-use Rattle.gr_base.specs.Rising.{includes}
+use Rattle.gr_base.specs.Rising.{has, includes}
 use Rattle.gr_program.specs.Program.{Program, ProgramLaws}
 use Rattle.gr_program.specs.Result.{result_text}
 use Rattle.gr_sched.specs.declared.event.Line.{Line}
@@ -40,11 +40,17 @@ module _ {V A : Type 0} (P : Program V A) (text : V → List ℕ) (s : Setting) 
   abbrev pub PrintsTheResult : Type 0
   PrintsTheResult = end.coordinator.mode ≡ mode.Done → printed ≡ result_text P text es vs s.limit
 
-  -- Lost: it names exactly the vertices all of whose holders are dead, and there is one.
+  -- Lost: it names exactly the vertices of the graph all of whose holders are dead, and there is one.
   pub record NamesTheLost : Type 0 where
     pub told : end.coordinator.mode ≡ mode.Lost → printed ≡ lost_text (lost_list end)
     pub exact : end.coordinator.mode ≡ mode.Lost → lost_list end ≡ map (λ e. e.vertex) (filter (λ e. includes end.coordinator.dead e.holders) (directory_of end))
     pub some : end.coordinator.mode ≡ mode.Lost → lost_list end ≢ []
+    -- the directory has an entry of each vertex of the loaded graph, and no other
+    pub whole : map (λ e. e.vertex) (directory_of end) ≡ vs
+    -- no live place holds a vertex that is named
+    pub no_live_holder : end.coordinator.mode ≡ mode.Lost → Each (λ e. IsTrue (has (lost_list end) e.vertex) → list_any (has end.coordinator.live) e.holders ≡ false) (directory_of end)
+    -- each other vertex has a holder that is not dead
+    pub others_held : end.coordinator.mode ≡ mode.Lost → Each (λ e. has (lost_list end) e.vertex ≡ false → IsTrue (list_any (λ p. not (has end.coordinator.dead p)) e.holders)) (directory_of end)
 
   -- Neither: it says that the schedule ended early, and after how many rounds.
   abbrev pub TellsAnEarlyEnd : Type 0

@@ -1,5 +1,5 @@
 -- The laws of the invariant: what each event makes of a cluster that agrees with a committed state. Every event falls under one of five.
-use Rattle.std.specs.Prelude.{ℕ, ◌≡◌, ◌≢◌, Bool, true, false, not, ◌&&◌, ◌==◌, IsTrue, List, Option, option_map, ⊤}
+use Rattle.std.specs.Prelude.{ℕ, ◌≡◌, ◌≢◌, ◌⊎◌, Bool, true, false, not, ◌&&◌, ◌==◌, IsTrue, List, [], Option, option_map, ⊤}
 use Rattle.gr_base.specs.declared.records.Edge.{Edge}
 use Rattle.gr_base.specs.declared.records.NumberedEdge.{NumberedEdge}
 use Rattle.gr_base.specs.Rising.{has}
@@ -10,11 +10,12 @@ use Rattle.gr_batch.specs.declared.outcome.Outcome.{Outcome}
 use Rattle.gr_batch.specs.declared.outcome.Outcome.TheVariants as outcome
 use Rattle.gr_sched.specs.declared.event.Event.{Event}
 use Rattle.gr_sched.specs.declared.event.Event.TheVariants as event
+use Rattle.gr_view.specs.declared.coordinator.Mode.TheVariants as mode
 use Rattle.gr_view.specs.Modes.{is_round, is_rebuild}
 use Rattle.gr_cluster.specs.Tables.{Cluster, host, is_up, log, effective, effective_arcs, view_of, wanted_in}
 use Rattle.gr_cluster.specs.Load.{Setting, load}
 use Rattle.gr_cluster.specs.GraphIn.{graph_of, graph_in}
-use Rattle.gr_cluster.specs.Step.{step}
+use Rattle.gr_cluster.specs.Step.{lost_list, step}
 use Rattle.gr_cluster.specs.Runs.{is_commit}
 use Rattle.gr_agree.specs.Truth.{Truth}
 use Rattle.gr_agree.specs.TrueRound.{next}
@@ -55,12 +56,23 @@ module _ {V A : Type 0} where
     pub arcs : (p : ℕ) → IsTrue (has d.coordinator.live p) → effective_edges d p ≡ effective_edges c p
     pub logs : (p : ℕ) → (log d p).committed ≡ (log c p).committed
 
--- an event that is no crash and leaves the epoch as it is changes nothing that is committed, and keeps the invariant
+  -- after a failure some vertex is found lost, and the run ends
+  pub record EndsLost (c d : Cluster V A) : Type 0 where
+    pub failed : c.coordinator.mode ≡ mode.Failed
+    pub some : lost_list c ≢ []
+    pub ended : d.coordinator.mode ≡ mode.Lost
+
+  -- the mode stays, except after a recovery that ends the run
+  abbrev pub IsModeSame : Event → Cluster V A → Cluster V A → Type 0
+  IsModeSame (event.Recover ps) c d = (d.coordinator.mode ≡ c.coordinator.mode) ⊎ EndsLost c d
+  IsModeSame _ c d = d.coordinator.mode ≡ c.coordinator.mode
+
+-- an event that is no crash and leaves the epoch as it is changes nothing that is committed, and keeps the mode and the invariant
 abbrev pub KeepsInsideAnEpoch : (V A : Type 0) → Type 0
 KeepsInsideAnEpoch V A =
     (P : Program V A) → ProgramLaws P → (t : Truth V) (c : Cluster V A) (e : Event) → NamesPlaces e → Agree P t c
     → is_crash (step P c e).1 ≡ false → (step P c e).0.coordinator.epoch ≡ c.coordinator.epoch
-    → IsCommittedSame c (step P c e).0 × Agree P t (step P c e).0
+    → IsCommittedSame c (step P c e).0 × IsModeSame e c (step P c e).0 × Agree P t (step P c e).0
 
 -- a crash takes one place from those that are up, and keeps the invariant
 abbrev pub KeepsAfterLoss : (V A : Type 0) → Type 0

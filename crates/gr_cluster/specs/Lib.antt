@@ -10,6 +10,7 @@ pub mod Runs
 pub mod Stages
 pub mod Step
 pub mod Tables
+pub mod ToGo
 pub mod Todo
 pub mod TraceText
 pub mod Work

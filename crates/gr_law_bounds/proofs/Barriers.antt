@@ -14,6 +14,7 @@ use Rattle.gr_view.specs.Decisions.{parties, looked_at, unready, rebuild_committ
 use Rattle.gr_cluster.specs.Tables.{Cluster, changed_at, is_up}
 use Rattle.gr_cluster.specs.Step.{down_among, with_coordinator, with_logs_committed, after_verdict, barred, step}
 use Rattle.gr_cluster.specs.Runs.{is_commit}
+use Rattle.gr_cluster.specs.ToGo.{epochs_of, somebody_down, epochs_left}
 use Rattle.gr_agree.specs.Truth.{Truth}
 use Rattle.gr_agree.specs.Agree.{Agree}
 use Rattle.gr_lists.proofs.Tests.{by_test, by_option}
@@ -21,7 +22,7 @@ use Rattle.gr_lists.proofs.Any.{has-filter, filter-none}
 use Rattle.gr_law_commit.proofs.Verdicts.{committing}
 use Rattle.gr_law_epoch.proofs.Crashes.{barrier-later}
 use Rattle.gr_law_left.proofs.Less.{step-over}
-use Rattle.gr_law_bounds.proofs.Epochs.{somebody_down, epochs_of, epochs_left, epochs-down, epochs-rebuild, nobody-down, Spends, same-spends, up-same}
+use Rattle.gr_law_bounds.proofs.Epochs.{epochs-down, epochs-rebuild, nobody-down, Spends, same-spends, up-same}
 
 module _ {V A : Type 0} (P : Program V A) (t : Truth V) (c : Cluster V A) (AG : Agree P t c) where
   -- ---- a commit

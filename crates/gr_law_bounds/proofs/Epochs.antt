@@ -1,5 +1,5 @@
 -- How many epochs `finish` may still go through beside those of its rounds, and the events that leave this number as it is.
-use Rattle.std.proofs.Common.{◌≡◌, ℕ, ◌+◌, ◌≤◌, Bool, true, false, cond, not, refl, sym, ap, ◌∙◌, arith, Option, Some, None, if◌then◌else◌}
+use Rattle.std.proofs.Common.{◌≡◌, ℕ, ◌+◌, ◌≤◌, Bool, true, false, not, refl, sym, ap, ◌∙◌, arith, Option, Some, None, if◌then◌else◌}
 use Rattle.std.specs.Prelude.{is_some, option_map}
 use Rattle.std.specs.List.{list_any}
 use Rattle.gr_base.specs.Rising.{has, union}
@@ -9,27 +9,12 @@ use Rattle.gr_view.specs.declared.coordinator.Mode.TheVariants as mode
 use Rattle.gr_view.specs.Modes.{is_failed, is_over, is_rebuild}
 use Rattle.gr_view.specs.Decisions.{looked_at}
 use Rattle.gr_cluster.specs.Tables.{Cluster, host, is_up, effective}
+use Rattle.gr_cluster.specs.ToGo.{epochs_of, somebody_down, epochs_left}
 use Rattle.gr_agree.specs.Truth.{Truth}
 use Rattle.gr_lists.proofs.Any.{list_any-none}
 use Rattle.gr_lists.proofs.Each.{Each-has}
 use Rattle.gr_law_network.specs.Law.{IsKept}
 use Rattle.gr_law_left.proofs.Unruled.{IsUnruled}
-
--- whether a place is down that a barrier looks at
-abbrev pub somebody_down : {V A : Type 0} → Cluster V A → Bool
-somebody_down c = list_any (λ p. not (is_up c p)) (looked_at c.coordinator)
-
--- by the mode, and by whether somebody is down: the failure that is still to be found, the recovery after it, and the commit of a rebuild
-abbrev pub epochs_of : Mode → Bool → ℕ
-epochs_of mode.Running down = cond down 3 0
-epochs_of mode.Repairing down = cond down 3 1
-epochs_of mode.Recovering down = cond down 3 1
-epochs_of mode.Failed down = cond down 3 2
-epochs_of mode.Done down = 0
-epochs_of mode.Lost down = 0
-
-abbrev pub epochs_left : {V A : Type 0} → Cluster V A → ℕ
-epochs_left c = epochs_of c.coordinator.mode (somebody_down c)
 
 few-of : (m : Mode) (b : Bool) → epochs_of m b ≤ 3
 few-of mode.Running true = omega arith

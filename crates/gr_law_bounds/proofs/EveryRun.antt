@@ -8,12 +8,13 @@ use Rattle.gr_cluster.specs.Tables.{Cluster}
 use Rattle.gr_cluster.specs.Step.{step}
 use Rattle.gr_cluster.specs.Canonical.{next_canonical}
 use Rattle.gr_cluster.specs.Left.{left}
+use Rattle.gr_cluster.specs.ToGo.{epochs_due}
 use Rattle.gr_cluster.specs.Runs.{Position, is_commit, event_of, lines_after, next_event, position_by, next_position, position_after, IsWhole}
 use Rattle.gr_agree.specs.Agree.{Invariant}
 use Rattle.gr_lists.proofs.Tests.{by_option}
 use Rattle.gr_law_ends.proofs.Events.{invariant-after}
 use Rattle.gr_law_ends.proofs.Runs.{AllName}
-use Rattle.gr_law_bounds.proofs.Nearer.{epochs_due, IsNearer, canonical-nearer}
+use Rattle.gr_law_bounds.proofs.Nearer.{IsNearer, canonical-nearer}
 use Rattle.gr_law_bounds.proofs.Short.{canonical-agrees}
 
 -- a line that gives the canonical event while there is one, and then gives way to the next line

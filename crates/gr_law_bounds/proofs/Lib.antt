@@ -1,8 +1,14 @@
 pub mod Copied
+pub mod Batches
+pub mod AlongRuns
 pub mod Epochs
 pub mod Barriers
 pub mod Recoveries
 pub mod Spending
 pub mod Short
+pub mod Stretch
 pub mod Nearer
 pub mod EveryRun
+pub mod ToGo
+pub mod Outcomes
+pub mod Crashes

@@ -1,5 +1,5 @@
 -- Each canonical event brings the end of `settle` and of `finish` nearer: fewer epochs may come, or in the same epoch less is left.
-use Rattle.std.proofs.Common.{◌≡◌, ℕ, ◌+◌, ◌-◌, ◌<◌, ◌≤◌, arith, Some, ◌⊎◌, inl, inr, ⊎_elim}
+use Rattle.std.proofs.Common.{◌≡◌, ◌<◌, ◌≤◌, arith, Some, ◌⊎◌, inl, inr, ⊎_elim}
 use Rattle.std.proofs.lemmas.Bool.{cases_lt}
 use Rattle.gr_program.specs.Program.{Program, ProgramLaws}
 use Rattle.gr_sched.specs.declared.event.Event.{Event}
@@ -7,20 +7,16 @@ use Rattle.gr_cluster.specs.Tables.{Cluster}
 use Rattle.gr_cluster.specs.Step.{step}
 use Rattle.gr_cluster.specs.Canonical.{next_canonical}
 use Rattle.gr_cluster.specs.Left.{left}
+use Rattle.gr_cluster.specs.ToGo.{epochs_due}
 use Rattle.gr_agree.specs.Agree.{Invariant}
 use Rattle.gr_law_runs.proofs.Plain.{round-below}
 use Rattle.gr_law_left.proofs.Canonical.{canonical-goes_on}
 use Rattle.gr_law_left.proofs.Counts.{step-counts}
 use Rattle.gr_law_left.proofs.Less.{canonical-leaves-less}
 use Rattle.gr_law_events.proofs.Limit.{limit-step}
-use Rattle.gr_law_bounds.proofs.Epochs.{epochs_left}
 use Rattle.gr_law_bounds.proofs.Spending.{canonical-spends}
 
 module _ {V A : Type 0} where
-  -- the epochs that may still come: one for each round below the limit, and those beside
-  abbrev pub epochs_due : Cluster V A → ℕ
-  epochs_due c = epochs_left c + (c.coordinator.limit - c.coordinator.round)
-
   abbrev pub IsNearer : Cluster V A → Cluster V A → Type 0
   IsNearer c d = (epochs_due d < epochs_due c) ⊎ ((epochs_due d ≤ epochs_due c) × (left d < left c))
 

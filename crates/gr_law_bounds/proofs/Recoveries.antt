@@ -1,5 +1,5 @@
 -- A recovery where no live place is down spends an epoch, or finds a loss, which ends the run.
-use Rattle.std.proofs.Common.{◌≡◌, ℕ, ◌+◌, List, true, false, not, ◌&&◌, nat_lt, refl, sym, ap, ◌∙◌, arith, Some, None, length, ⊎_elim, if◌then◌else◌}
+use Rattle.std.proofs.Common.{◌≡◌, ℕ, ◌+◌, List, true, false, not, ◌&&◌, nat_lt, sym, ap, ◌∙◌, arith, Some, None, length, ⊎_elim, if◌then◌else◌}
 use Rattle.std.specs.Prelude.{is_some, nat_le}
 use Rattle.std.specs.List.{list_any}
 use Rattle.std.proofs.lemmas.Bool.{and_parts, and_from, both_ways, not_from_false, or_cases, true_from_ne_false}
@@ -7,28 +7,21 @@ use Rattle.gr_base.specs.Rising.{has, union, includes}
 use Rattle.gr_base.proofs.Union.{has-union}
 use Rattle.gr_program.specs.Program.{Program}
 use Rattle.gr_sched.specs.declared.event.Event.TheVariants as event
-use Rattle.gr_view.specs.declared.coordinator.Mode.{Mode}
 use Rattle.gr_view.specs.declared.coordinator.Mode.TheVariants as mode
 use Rattle.gr_view.specs.Modes.{is_failed, is_over}
 use Rattle.gr_view.specs.Decisions.{parties, may_recover, recovering, at_recovery}
 use Rattle.gr_cluster.specs.Tables.{Host, Cluster, host, is_up, log}
 use Rattle.gr_cluster.specs.Step.{lost_list, reborn_host, with_reborn, with_coordinator, recovered, step}
 use Rattle.gr_cluster.specs.Canonical.{is_crash_unseen}
+use Rattle.gr_cluster.specs.ToGo.{epochs_of, somebody_down, epochs_left}
 use Rattle.gr_agree.specs.Truth.{Truth}
 use Rattle.gr_agree.specs.Agree.{Agree}
 use Rattle.gr_lists.proofs.Tests.{by_test}
 use Rattle.gr_lists.proofs.Any.{has-filter, filter-none}
 use Rattle.gr_law_epoch.proofs.Tables.{within-changed_at, get_or-unchanged}
 use Rattle.gr_law_epoch.proofs.Places.{has-included, dead-within}
-use Rattle.gr_law_bounds.proofs.Epochs.{somebody_down, epochs_of, epochs_left, nobody-down, Spends, same-spends}
-
-mode-failed : (m : Mode) → is_failed m ≡ true → m ≡ mode.Failed
-mode-failed mode.Failed f = refl
-mode-failed mode.Running f = absurd (let bad : false ≡ true = f in cc)
-mode-failed mode.Recovering f = absurd (let bad : false ≡ true = f in cc)
-mode-failed mode.Repairing f = absurd (let bad : false ≡ true = f in cc)
-mode-failed mode.Done f = absurd (let bad : false ≡ true = f in cc)
-mode-failed mode.Lost f = absurd (let bad : false ≡ true = f in cc)
+use Rattle.gr_law_epoch.proofs.Unopened.{failed-mode}
+use Rattle.gr_law_bounds.proofs.Epochs.{nobody-down, Spends, same-spends}
 
 module _ {V A : Type 0} (P : Program V A) (t : Truth V) (c : Cluster V A) (AG : Agree P t c) where
   module _ (was_failed : is_failed c.coordinator.mode ≡ true) (seen : is_crash_unseen c ≡ false) where
@@ -40,7 +33,7 @@ module _ {V A : Type 0} (P : Program V A) (t : Truth V) (c : Cluster V A) (AG : 
 
     two-left : epochs_left c ≡ 2
     two-left =
-        let m = mode-failed c.coordinator.mode was_failed in
+        let m = failed-mode c.coordinator.mode was_failed in
         let calm : somebody_down c ≡ false = ap (λ b. list_any (λ p. not (is_up c p)) (if b then c.coordinator.live else parties c.coordinator)) was_failed ∙ seen in
         λ i. epochs_of (m i) (calm i)
 

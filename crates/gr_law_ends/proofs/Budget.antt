@@ -58,14 +58,14 @@ none-passes f xs none v m = by_test (f v)
 
 -- ---- the count of losses by an outcome
 
-abbrev one_more : Losses → Losses
+abbrev pub one_more : Losses → Losses
 one_more l = record { crashes = l.crashes + 1; live = l.live }
 
 module _ {V A : Type 0} (c d : Cluster V A) (l : Losses) where
-  abbrev at_commit : Losses
+  abbrev pub at_commit : Losses
   at_commit = if is_rebuild c.coordinator.mode && is_restored d then no_losses d else l
 
-  losses-by : (o : Outcome V A) → losses_after_step c o d l ≡ (if is_commit o then at_commit else (if is_crash o then one_more l else l))
+  pub losses-by : (o : Outcome V A) → losses_after_step c o d l ≡ (if is_commit o then at_commit else (if is_crash o then one_more l else l))
   losses-by outcome.Idle = refl
   losses-by (outcome.Installed n) = refl
   losses-by (outcome.Adopted n) = refl
@@ -111,18 +111,22 @@ module _ {V A : Type 0} (bound : ℕ) where
     unfolding step
     crash-live p n = by_test (is_over c.coordinator.mode) (λ o. rw o refl) (λ o. rw o (crashed-live p n (host c p)))
 
-    crash-bears : (p n : ℕ) → is_crash (step P c (event.Crash p n)).1 ≡ true → Bears l c → Bears (one_more l) (step P c (event.Crash p n)).0
-    crash-bears p n y B =
-        let d = (step P c (event.Crash p n)).0 in
-        let K = loss-kept P t c p n AG y in
-        let gone : (q : ℕ) → serves d q ≡ (serves c q && not (q == p)) = λ q.
-        (λ i. has (crash-live p n i) q && K.0 q i) ∙ grouped (has c.coordinator.live q) (is_up c q) (not (q == p)) in
-        subst (Each (IsBorne (one_more l) d)) (directory-is P t c AG ∙ sym (directory-is P t d K.1))
-        (Each-weaker (IsBorne l c) (IsBorne (one_more l) d) (λ e k. let less = serving-less e.holders c d p gone in omega (arith, less, k)) (directory_of c) B)
+    -- a crash takes its own place away, and no other
+    pub crash-serves : (p n : ℕ) → is_crash (step P c (event.Crash p n)).1 ≡ true → (q : ℕ) → serves (step P c (event.Crash p n)).0 q ≡ (serves c q && not (q == p))
+    crash-serves p n y q =
+        let K = loss-kept P t c p n AG y in (λ i. has (crash-live p n i) q && K.0 q i) ∙ grouped (has c.coordinator.live q) (is_up c q) (not (q == p))
       where
         grouped : (a b k : Bool) → (a && (b && k)) ≡ ((a && b) && k)
         grouped true b k = refl
         grouped false b k = refl
+
+    crash-bears : (p n : ℕ) → is_crash (step P c (event.Crash p n)).1 ≡ true → Bears l c → Bears (one_more l) (step P c (event.Crash p n)).0
+    crash-bears p n y B =
+        let d = (step P c (event.Crash p n)).0 in
+        let K = loss-kept P t c p n AG y in
+        let gone = crash-serves p n y in
+        subst (Each (IsBorne (one_more l) d)) (directory-is P t c AG ∙ sym (directory-is P t d K.1))
+        (Each-weaker (IsBorne l c) (IsBorne (one_more l) d) (λ e k. let less = serving-less e.holders c d p gone in omega (arith, less, k)) (directory_of c) B)
 
     -- ---- commits
 
@@ -137,11 +141,13 @@ module _ {V A : Type 0} (bound : ℕ) where
       unfolding directory_of
       round-same B = B
 
+      after-round : is_rebuild c.coordinator.mode ≡ false → with_coordinator (round_committed c.coordinator) c ≡ d
+      after-round other =
+          sym ((committing P c e commits).2 ∙ (λ i. with_coordinator (if other i then rebuild_committed c.coordinator else round_committed c.coordinator) (if other i then committed_logs else c)))
+
       -- the commit of a round changes neither the logs nor which places are live and up
       round-bears : is_rebuild c.coordinator.mode ≡ false → Bears l c → Bears l d
-      round-bears other B = subst (Bears l)
-          (sym ((committing P c e commits).2 ∙ (λ i. with_coordinator (if other i then rebuild_committed c.coordinator else round_committed c.coordinator) (if other i then committed_logs else c))))
-          (round-same B)
+      round-bears other B = subst (Bears l) (after-round other) (round-same B)
 
       module _ (rebuilding : is_rebuild c.coordinator.mode ≡ true) where
         abbrev t' : Truth V
@@ -194,6 +200,13 @@ module _ {V A : Type 0} (bound : ℕ) where
             (λ v k more. omega (arith, k, more)) t.vertices
             (Each-of_map (IsBorne l c) (true_entry t) t.vertices (subst (Each (IsBorne l c)) (directory-is P t c AG) B))
             (Each-has _ t.vertices holders-stay)))
+
+      -- a place that is live and up stays so
+      pub commit-serves : (p : ℕ) → serves c p ≡ true → serves d p ≡ true
+      commit-serves p s = by_test (is_rebuild c.coordinator.mode)
+          (λ r. let live = (and_parts (has c.coordinator.live p) (is_up c p) s).0 in
+          party-serves r p (has-union p c.coordinator.live c.coordinator.reborn ∙ or_left _ _ live))
+          (λ other. subst (λ x. serves x p ≡ true) (after-round other) s)
 
       commit-bears : d.losses ≡ bound → Bears l c → Bears (at_commit c d l) d
       commit-bears same B = by_test (is_rebuild c.coordinator.mode)

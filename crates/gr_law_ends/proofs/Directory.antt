@@ -1,8 +1,8 @@
 -- The directory that the committed logs say, and the vertices that are lost.
-use Rattle.std.proofs.Common.{◌≡◌, ◌<◌, ℕ, List, [], ◌∷◌, ◌++◌, Bool, true, false, not, ◌==◌, ◌&&◌, nat_lt, map, filter, flat_map, refl, sym, ap, ◌∙◌, arith, eq-eqb, ne_eqb, ltb-true, ltb-false}
-use Rattle.std.specs.List.{fold}
+use Rattle.std.proofs.Common.{◌≡◌, ◌<◌, ℕ, List, [], ◌∷◌, ◌++◌, Bool, true, false, not, ◌==◌, ◌&&◌, nat_lt, map, filter, flat_map, refl, sym, ap, ◌∙◌, subst, arith, eq-eqb, ne_eqb, ltb-true, ltb-false}
+use Rattle.std.specs.List.{fold, list_all, list_any, AllByRecursion as Each}
 use Rattle.std.proofs.Math.Bool.{and-true}
-use Rattle.std.proofs.lemmas.Bool.{and_from, and_parts, and_right, not-true}
+use Rattle.std.proofs.lemmas.Bool.{and_from, and_parts, and_right, both_ways, not-true}
 use Rattle.std.proofs.lemmas.List.{map-append}
 use Rattle.gr_base.specs.Rising.{RisesBy, has, includes, with_item}
 use Rattle.gr_base.specs.Places.{below, with_place}
@@ -18,14 +18,14 @@ use Rattle.gr_cluster.specs.Step.{lost_list}
 use Rattle.gr_agree.specs.Truth.{Truth, held, true_entry, entries_at}
 use Rattle.gr_agree.specs.Agree.{Agree}
 use Rattle.gr_lists.proofs.Tests.{by_test}
-use Rattle.gr_lists.proofs.Any.{has-filter}
+use Rattle.gr_lists.proofs.Any.{has-filter, list_any-none}
 use Rattle.gr_lists.proofs.Chosen.{map-undone}
 use Rattle.gr_lists.proofs.Each.{Each-always, Each-has}
 use Rattle.gr_lists.proofs.Items.{items-rising, parts-whole}
 use Rattle.gr_lists.proofs.Maps.{Each-map, filter-map, map-rises}
 use Rattle.gr_lists.proofs.Numbers.{any-has}
 use Rattle.gr_lists.proofs.Selections.{map-filter-map-filter}
-use Rattle.gr_law_epoch.proofs.Places.{has-included, dead-within, dead-not_retired}
+use Rattle.gr_law_epoch.proofs.Places.{has-included, live-not_dead, dead-within, dead-not_retired}
 
 -- ---- numbers put into a rising list, as items
 
@@ -48,6 +48,13 @@ rising-items (x ∷ xs) ys = rising-items xs (with_place ys x) ∙ ap (λ l. wit
 map-flat_map : {X Y Z : Type 0} (f : Y → Z) (g : X → List Y) (xs : List X) → map f (flat_map g xs) ≡ flat_map (λ x. map f (g x)) xs
 map-flat_map f g [] = refl
 map-flat_map f g (x ∷ xs) = map-append f (g x) (flat_map g xs) ∙ ap (λ l. map f (g x) ++ l) (map-flat_map f g xs)
+
+-- where not all pass a test, some does not
+not_all-some : (f : ℕ → Bool) (xs : List ℕ) → list_all f xs ≡ false → list_any (λ x. not (f x)) xs ≡ true
+not_all-some f [] h = absurd (let bad : true ≡ false = h in cc)
+not_all-some f (x ∷ xs) h = by_test (f x)
+    (λ k. rw k (not_all-some f xs (rw k at h)))
+    (λ k. rw k refl)
 
 module _ {V A : Type 0} (P : Program V A) (t : Truth V) (c : Cluster V A) (AG : Agree P t c) where
   abbrev vertex : Entry → ℕ
@@ -133,3 +140,29 @@ module _ {V A : Type 0} (P : Program V A) (t : Truth V) (c : Cluster V A) (AG : 
       ap (λ l. map vertex (filter is_lost l)) directory-is
       ∙ (ap (map vertex) (filter-map is_lost (true_entry t) t.vertices)
       ∙ map-undone (true_entry t) vertex (λ v. refl) lost))
+
+  -- ---- who holds them
+
+  -- the directory has the vertices of the committed state
+  pub directory-vertices : map vertex (directory_of c) ≡ t.vertices
+  directory-vertices = ap (map vertex) directory-is ∙ map-undone (true_entry t) vertex (λ v. refl) t.vertices
+
+  -- what each vertex of the committed state meets, each entry of the directory does
+  Each-entry : (Q : Entry → Type 0) → ((v : ℕ) → has t.vertices v ≡ true → Q (true_entry t v)) → Each Q (directory_of c)
+  Each-entry Q q = subst (Each Q) (sym directory-is) (Each-map Q (true_entry t) t.vertices (Each-has _ t.vertices q))
+
+  is-lost : (v : ℕ) → has (lost_list c) v ≡ (has t.vertices v && includes dead (t.holders v))
+  is-lost v = ap (λ l. has l v) lost-is ∙ has-filter (λ u. includes dead (t.holders u)) t.vertices v
+
+  -- no live place holds a vertex that is lost
+  pub lost-not_live : Each (λ e. has (lost_list c) e.vertex ≡ true → list_any (has c.coordinator.live) e.holders ≡ false) (directory_of c)
+  lost-not_live = Each-entry _ (λ v there l.
+      let all = (and_parts (has t.vertices v) (includes dead (t.holders v)) (sym (is-lost v) ∙ l)).1 in
+      list_any-none (has c.coordinator.live) (t.holders v) (Each-has _ (t.holders v) (λ p m. by_test (has c.coordinator.live p)
+      (λ live. absurd (both_ways _ (live-not_dead c.coordinator c.places p (AG.committed.places.one_set p) live) (has-included dead (t.holders v) p all m)))
+      (λ none. none))))
+
+  -- each other vertex has a holder that is not dead
+  pub others-held : Each (λ e. has (lost_list c) e.vertex ≡ false → list_any (λ p. not (has dead p)) e.holders ≡ true) (directory_of c)
+  others-held = Each-entry _ (λ v there l.
+      not_all-some (has dead) (t.holders v) (sym (ap (λ b. b && includes dead (t.holders v)) there) ∙ (sym (is-lost v) ∙ l)))

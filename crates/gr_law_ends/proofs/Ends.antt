@@ -16,7 +16,7 @@ use Rattle.gr_report.specs.Endings.{unfinished_text}
 use Rattle.gr_agree.specs.Headline.{IsRunFromLoad, PrintsTheResult, NamesTheLost, TellsAnEarlyEnd, LosesNothingWithinBudget, FinishNeverEndsEarly, EndsAsItMust}
 use Rattle.gr_law_runs.proofs.Finish.{after-finishes, whole-over}
 use Rattle.gr_law_ends.specs.Law.{StaysInItsGraph}
-use Rattle.gr_law_ends.proofs.Directory.{lost-exact}
+use Rattle.gr_law_ends.proofs.Directory.{lost-exact, directory-vertices, lost-not_live, others-held}
 use Rattle.gr_law_ends.proofs.Found.{after-found, load-found}
 use Rattle.gr_law_ends.proofs.Results.{done-result}
 use Rattle.gr_law_ends.proofs.Runs.{run-stays}
@@ -52,6 +52,9 @@ module _ {V A : Type 0} (P : Program V A) (text : V → List ℕ) (s : Setting) 
     some = λ m none.
         let found = subst (λ c. c.coordinator.mode ≡ mode.Lost → nat_lt 0 (length (lost_list c)) ≡ true) (sym R.run.last) (after-found P (length played) start (load-found P s es vs)) m in
         let bad : false ≡ true = sym (ap (λ l. nat_lt 0 (length l)) none) ∙ found in cc;
+    whole = directory-vertices P stays.agrees.state end stays.agrees.agrees ∙ stays.agrees.vertices;
+    no_live_holder = λ m. lost-not_live P stays.agrees.state end stays.agrees.agrees;
+    others_held = λ m. others-held P stays.agrees.state end stays.agrees.agrees;
   }
 
   early-by : (m : Mode) → m ≢ mode.Done → m ≢ mode.Lost → ending_text text end (ending_by end m) ≡ unfinished_text end.coordinator.round

@@ -69,7 +69,7 @@ module _ {V A : Type 0} (P : Program V A) (s : Setting) (es : List Edge) (vs : L
   abbrev c : Cluster V A
   c = load P s es vs
 
-  load-live : c.coordinator.live ≡ below s.places
+  pub load-live : c.coordinator.live ≡ below s.places
   unfolding load
   load-live = refl
 

@@ -26,7 +26,7 @@ module _ {V A : Type 0} (P : Program V A) (t : Truth V) (c : Cluster V A) (AG : 
   abbrev crashed : List ℕ
   crashed = down_among c (looked_at c.coordinator)
 
-  looked-places : IsPlaces (looked_at c.coordinator)
+  pub looked-places : IsPlaces (looked_at c.coordinator)
   looked-places = let S = AG.committed.shaped in by_test (is_failed c.coordinator.mode)
       (λ f. rw f S.live)
       (λ f. rw f (IsPlaces-union c.coordinator.live c.coordinator.reborn S.live S.reborn))

@@ -23,6 +23,14 @@ use Rattle.gr_law_network.specs.Law.{IsKept}
 use Rattle.gr_law_network.proofs.Kept.{kept-same}
 use Rattle.gr_law_epoch.specs.Law.{is_order}
 
+pub failed-mode : (m : Mode) → is_failed m ≡ true → m ≡ mode.Failed
+failed-mode mode.Failed y = refl
+failed-mode mode.Running y = absurd (let bad : false ≡ true = y in cc)
+failed-mode mode.Recovering y = absurd (let bad : false ≡ true = y in cc)
+failed-mode mode.Repairing y = absurd (let bad : false ≡ true = y in cc)
+failed-mode mode.Done y = absurd (let bad : false ≡ true = y in cc)
+failed-mode mode.Lost y = absurd (let bad : false ≡ true = y in cc)
+
 module _ {V A : Type 0} (P : Program V A) (t : Truth V) (c : Cluster V A) where
   -- the cluster in a mode
   abbrev in_mode : Mode → Cluster V A
@@ -122,14 +130,6 @@ module _ {V A : Type 0} (P : Program V A) (t : Truth V) (c : Cluster V A) where
     };
   }
 
-  is-mode : (m : Mode) → is_failed m ≡ true → m ≡ mode.Failed
-  is-mode mode.Failed y = refl
-  is-mode mode.Running y = absurd (let bad : false ≡ true = y in cc)
-  is-mode mode.Recovering y = absurd (let bad : false ≡ true = y in cc)
-  is-mode mode.Repairing y = absurd (let bad : false ≡ true = y in cc)
-  is-mode mode.Done y = absurd (let bad : false ≡ true = y in cc)
-  is-mode mode.Lost y = absurd (let bad : false ≡ true = y in cc)
-
   module _ (AG : Agree P t c) where
     lost-kept : is_failed c.coordinator.mode ≡ true → IsKept P t c lost
     lost-kept was_failed = (
@@ -143,7 +143,7 @@ module _ {V A : Type 0} (P : Program V A) (t : Truth V) (c : Cluster V A) where
         retired = refl;
         reborn = refl;
       },
-      lost-agrees (subst (Agree P t) (ap in_mode (is-mode c.coordinator.mode was_failed)) AG),
+      lost-agrees (subst (Agree P t) (ap in_mode (failed-mode c.coordinator.mode was_failed)) AG),
     )
 
     -- the cluster afterwards is in the same epoch only where nothing opened

@@ -15,7 +15,7 @@ use Rattle.gr_cluster.specs.Step.{down_among, without_hosts, with_coordinator, a
 use Rattle.gr_lists.proofs.Tests.{by_test, by_option}
 
 -- as many of the first numbers of a list as there may be: each stands in the list, and they are no more
-take-within : (f : ℕ → Bool) (n : ℕ) (xs : List ℕ) → ((v : ℕ) → has xs v ≡ true → f v ≡ true) → list_all f (take n xs) ≡ true
+pub take-within : (f : ℕ → Bool) (n : ℕ) (xs : List ℕ) → ((v : ℕ) → has xs v ≡ true → f v ≡ true) → list_all f (take n xs) ≡ true
 take-within f zero xs h = refl
 take-within f (suc n) [] h = refl
 take-within f (suc n) (x ∷ xs) h = and_from _ _ (h x (or_left _ _ (eq-eqb x x refl))) (take-within f n xs (λ v m. h v (or_right _ _ m)))

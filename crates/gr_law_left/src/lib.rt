@@ -2,8 +2,7 @@
 #![tactic(auto)]
 
 ghost use Rattle.gr_agree.specs.Bounds.{LeavesLess, LeftIsBounded, StepsByOne};
-ghost use Rattle.gr_law_left.specs.Law.{NeverLeavesMore};
-ghost use Rattle.gr_law_left.specs.ToGo.{UndisturbedGoesOn, StretchIsShort};
+ghost use Rattle.gr_law_left.specs.Law.{EpochsAreTold, NeverLeavesMore};
 
 /// Until the run is over something is left, and each canonical event inside an epoch leaves less, in every mode. So a
 /// cluster to which only canonical events come never stands still.
@@ -27,13 +26,7 @@ pub fn steps_raise_by_one<V, A>()
     ensures { StepsByOne V A }
 {}
 
-/// Where nothing disturbs a cluster, no canonical event is a crash, a recovery, a repair or a discard, and each lowers
-/// the measure `to_go`, which no work, delivery, drop or barrier raises. The canonical events stop where the run is done.
-pub fn undisturbed_goes_on<V, A>()
-    ensures { UndisturbedGoesOn V A }
-{}
-
-/// The events of `finish` inside one epoch are as few as what is left at its start allows.
-pub fn a_stretch_is_short<V, A>()
-    ensures { StretchIsShort V A }
+/// A step raises the epoch exactly if its outcome is a failure, a commit, a new epoch or a discard, and then by one.
+pub fn epochs_are_told<V, A>()
+    ensures { EpochsAreTold V A }
 {}

@@ -1,9 +1,12 @@
+pub mod AtPlace
 pub mod Granted
 pub mod Line
 pub mod Lists
 pub mod Logs
+pub mod Next
 pub mod Others
 pub mod Rebuild
 pub mod Repair
 pub mod Rows
 pub mod Taken
+pub mod Unstaged

@@ -15,7 +15,8 @@ use Rattle.gr_view.specs.Modes.{is_open, is_over, is_rebuild}
 use Rattle.gr_rules.specs.Exchange.{needed, unsent}
 use Rattle.gr_rules.specs.Todo.{Todo, compute_or_wait, send_or_rest}
 use Rattle.gr_rules.specs.AtPlace.{due_count}
-use Rattle.gr_round.specs.Todo.{AwaitsSending}
+use Rattle.gr_round.specs.Line.{is_of_rebuild}
+use Rattle.gr_round.specs.Todo.{todo_in_rebuild, AwaitsSending}
 use Rattle.gr_cluster.specs.Tables.{Host, Cluster, host, log, view_of, wanted_in}
 use Rattle.gr_cluster.specs.Todo.{others, todo}
 use Rattle.gr_cluster.specs.Work.{exchange_of, worked}
@@ -32,7 +33,6 @@ use Rattle.gr_law_rebuild.proofs.InEpoch.{party, at-epoch}
 use Rattle.gr_law_rebuild.proofs.Report.{report-kept}
 use Rattle.gr_rebuild.specs.Ending.{IsAllCommitted}
 use Rattle.gr_law_relies.specs.Law.{MayReport}
-use Rattle.gr_law_relies.specs.Todo.{is_of_rebuild, todo_in_rebuild}
 use Rattle.gr_law_relies.proofs.Lists.{places-few}
 
 pub not-over : (m : Mode) → is_rebuild m ≡ true → is_over m ≡ false

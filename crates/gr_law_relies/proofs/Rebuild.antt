@@ -23,6 +23,7 @@ use Rattle.gr_law_relies.proofs.Others.{other-places}
 use Rattle.gr_law_relies.proofs.Granted.{granted-ids}
 use Rattle.gr_law_relies.proofs.Repair.{may-repair}
 use Rattle.gr_law_relies.proofs.Taken.{new-edges}
+use Rattle.gr_law_relies.proofs.Unstaged.{same-layers}
 use Rattle.gr_law_relies.proofs.Line.{of-rebuild, todo-rebuild, awaits-sending, append-ready, report-ready}
 
 module _ {V A : Type 0} (P : Program V A) (t : Truth V) (c : Cluster V A) (p : ℕ) (h : Host V A) (AG : Agree P t c) (rebuilding : is_rebuild c.coordinator.mode ≡ true) (at : host c p ≡ Some h)
@@ -47,6 +48,7 @@ module _ {V A : Type 0} (P : Program V A) (t : Truth V) (c : Cluster V A) (p : �
         few_askers = few-askers h.inbox h.epoch (others c.coordinator p) places;
         recovery = λ e q. ap (λ m. grant_body (view_of P c) (wanted (is_repair m) (view_of P c)) p (asked_for P c p h) h.stable q) e;
         repair = λ e. may-repair P t c AG e p h at now stable;
+        same_layers = same-layers P t c AG rebuilding p h at le le';
         new_edges = new-edges P t c AG rebuilding p h at le le' now;
         granted_ids = granted-ids P t c AG p h at now ids;
         stage = of-rebuild h.stage (stage-here P t c AG rebuilding p h at le le');

@@ -1,5 +1,5 @@
 -- The edges that a place takes over are none of those that stand there.
-use Rattle.std.proofs.Common.{◌≡◌, ◌≤◌, ◌+◌, ℕ, true, false, cond, not, ◌==◌, ◌&&◌, filter, find, refl, sym, ap, ◌∙◌, subst, arith, Some, None, eqb-true, ⊎_elim}
+use Rattle.std.proofs.Common.{◌≡◌, ◌≤◌, ℕ, true, false, not, ◌==◌, ◌&&◌, filter, find, refl, sym, ap, ◌∙◌, subst, Some, None, eqb-true, ⊎_elim}
 use Rattle.std.specs.Prelude.{IsNone}
 use Rattle.std.specs.List.{All, AllByRecursion as Each}
 use Rattle.std.proofs.lemmas.Bool.{and_parts, and_right, both_ways}
@@ -9,13 +9,11 @@ use Rattle.gr_base.specs.Rising.{has}
 use Rattle.gr_program.specs.Program.{Program}
 use Rattle.gr_copies.specs.declared.view.RebuildView.{RebuildView}
 use Rattle.gr_copies.specs.Granter.{is_retiring}
-use Rattle.gr_batch.specs.Stages.{place_in}
 use Rattle.gr_view.specs.Modes.{is_rebuild}
 use Rattle.gr_cluster.specs.Tables.{Host, Cluster, host, view_of}
 use Rattle.gr_cluster.specs.Place.{taken}
 use Rattle.gr_agree.specs.Truth.{Truth, place_of, arcs_at}
 use Rattle.gr_agree.specs.Rebuilt.{is_taken_by, true_taken}
-use Rattle.gr_agree.specs.Hosts.{progress}
 use Rattle.gr_agree.specs.Agree.{Agree}
 use Rattle.gr_lists.proofs.Tests.{by_test}
 use Rattle.gr_lists.proofs.Each.{Each-weaker}
@@ -26,11 +24,11 @@ use Rattle.gr_law_epoch.proofs.Places.{live-not_dead}
 use Rattle.gr_law_rebuild.proofs.Logged.{number}
 use Rattle.gr_law_rebuild.proofs.AtPlace.{taken-here}
 use Rattle.gr_law_rebuild.proofs.Parties.{party-cases}
-use Rattle.gr_law_rebuild.proofs.InEpoch.{at-epoch, stable-is, arcs-until}
-use Rattle.gr_law_round.proofs.AtPlace.{place-le}
+use Rattle.gr_law_rebuild.proofs.InEpoch.{stable-is}
 use Rattle.gr_rebuild.specs.Ending.{IsNewTo}
 use Rattle.gr_law_relies.proofs.Lists.{each-of_number}
 use Rattle.gr_law_relies.proofs.Logs.{edges-rise}
+use Rattle.gr_law_relies.proofs.Unstaged.{same-layers}
 
 module _ {V A : Type 0} (P : Program V A) (t : Truth V) (c : Cluster V A) (AG : Agree P t c) (rebuilding : is_rebuild c.coordinator.mode ≡ true) (p : ℕ) (h : Host V A) (at : host c p ≡ Some h) where
   abbrev w : RebuildView
@@ -61,8 +59,7 @@ module _ {V A : Type 0} (P : Program V A) (t : Truth V) (c : Cluster V A) (AG : 
   module _ (le : c.coordinator.commits ≤ h.installed) (le' : c.coordinator.epoch ≤ h.epoch) (now : h.epoch ≡ c.coordinator.epoch) where
     pub new-edges : h.computed ≡ false → All (IsNewTo h.pending_arcs) (taken P c p h)
     new-edges comp =
-        let few = place-le h.stage in let here : progress h ≡ place_in h.stage + 0 = ap (λ b. place_in h.stage + cond b 1 0) comp in
-        let pending : h.pending_arcs ≡ arcs_at t p = (at-epoch P t c AG rebuilding p h at le le').arcs ∙ arcs-until P t c AG rebuilding p h at (progress h) (omega (arith, few, here)) in
+        let pending : h.pending_arcs ≡ arcs_at t p = (same-layers P t c AG rebuilding p h at le le' comp).1 ∙ (stable-is P t c AG rebuilding p h at le le').1 in
         let mine : taken P c p h ≡ true_taken w t p = taken-here P t c AG rebuilding p h at now (stable-is P t c AG rebuilding p h at le le').0 in
         All-from_recursion (IsNewTo h.pending_arcs) (taken P c p h)
         (subst (λ arcs. Each (IsNewTo arcs) (taken P c p h)) (sym pending) (subst (Each (IsNewTo (arcs_at t p))) (sym mine) new-here))

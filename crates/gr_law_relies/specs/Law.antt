@@ -12,7 +12,8 @@ use Rattle.gr_rules.specs.Rows.{entry}
 use Rattle.gr_rules.specs.Todo.{Todo}
 use Rattle.gr_rules.specs.Grants.{wanted, grant_body}
 use Rattle.gr_rules.specs.AtPlace.{due_count}
-use Rattle.gr_round.specs.Todo.{AwaitsSending}
+use Rattle.gr_round.specs.Line.{is_of_rebuild}
+use Rattle.gr_round.specs.Todo.{todo_in_rebuild, AwaitsSending}
 use Rattle.gr_migrate.specs.Ends.{KnowsMaster, MastersKnown}
 use Rattle.gr_migrate.specs.Asks.{KeptOnce}
 use Rattle.gr_migrate.specs.Askers.{AreAskers}
@@ -25,7 +26,6 @@ use Rattle.gr_cluster.specs.Work.{exchange_of}
 use Rattle.gr_cluster.specs.Place.{asked_for, granted_to, granted, taken}
 use Rattle.gr_agree.specs.Truth.{Truth}
 use Rattle.gr_agree.specs.Agree.{Agree}
-use Rattle.gr_law_relies.specs.Todo.{is_of_rebuild, todo_in_rebuild}
 
 -- an id has 32 bits
 abbrev pub HasId : {V : Type 0} → VertexCopy V → Type 0
@@ -59,6 +59,8 @@ pub record MayRebuild {V A : Type 0} (P : Program V A) (c : Cluster V A) (p : �
   -- in a recovery it grants by the dead and by those asks alone, in a repair for the copies that are too few
   pub recovery : c.coordinator.mode ≡ mode.Recovering → (q : ℕ) → granted_to P c p h q ≡ grant_body (view_of P c) 0 p (asked_for P c p h) h.stable q
   pub repair : c.coordinator.mode ≡ mode.Repairing → MayRepair P c p h
+  -- until the end is computed nothing is staged
+  pub same_layers : h.computed ≡ false → (h.pending ≡ h.stable) × (h.pending_arcs ≡ h.arcs)
   -- the edges that it takes are new to it until they are staged
   pub new_edges : h.computed ≡ false → All (IsNewTo h.pending_arcs) (taken P c p h)
   -- each vertex that is granted to it has 32 bits

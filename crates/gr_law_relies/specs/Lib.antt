@@ -1,2 +1,2 @@
+pub mod AtPlace
 pub mod Law
-pub mod Todo

@@ -136,6 +136,12 @@ module _ {V A : Type 0} (P : Program V A) (t : Truth V) (c : Cluster V A) (AG : 
       (λ none. absurd (let bad : false ≡ true = sym (ap (λ (o : Option (Host V A)). is_some o) none) ∙ up p party in cc))
       (λ h at. appended-is p h at))
 
+  -- and before that none of its records is torn
+  whole-log : (p : ℕ) → has (parties c.coordinator) p ≡ true → (log c p).torn ≡ []
+  whole-log p party = by_option (host c p)
+      (λ none. absurd (let bad : false ≡ true = sym (ap (λ (o : Option (Host V A)). is_some o) none) ∙ up p party in cc))
+      (λ h at. ((done p h at).0).not_torn)
+
   logs-after : LogsHold t' c.places c.theta co' (log d)
   logs-after = let G = AG.committed.logs in record {
     theta = G.theta;
@@ -194,14 +200,22 @@ module _ {V A : Type 0} (P : Program V A) (t : Truth V) (c : Cluster V A) (AG : 
   }
 
 module _ {V A : Type 0} (P : Program V A) (t : Truth V) (c : Cluster V A) (e : Event) (AG : Agree P t c) (commits : IsTrue (is_commit (step P c e).1)) (rebuilding : IsTrue (is_rebuild c.coordinator.mode)) where
+  all-up : (p : ℕ) → has (parties c.coordinator) p ≡ true → is_up c p ≡ true
+  all-up p m = not-false (is_up c p) (none-passes (λ q. not (is_up c q)) (parties c.coordinator) (committing P c e commits).0 p m)
+
+  all-ready : (p : ℕ) → has (parties c.coordinator) p ≡ true → has c.coordinator.ready p ≡ true
+  all-ready p m = not-false (has c.coordinator.ready p) (find-none_of (λ q. not (has c.coordinator.ready q)) (parties c.coordinator) p (committing P c e commits).1 m)
+
+  -- each party has appended whole records
+  pub logs-whole : (p : ℕ) → has (parties c.coordinator) p ≡ true → (log c p).torn ≡ []
+  logs-whole = whole-log P t c AG rebuilding all-up all-ready
+
   pub rebuild-commits : Agree P (rebuilt P (view_of P c) (wanted_in P c) t) (step P c e).0
   rebuild-commits =
       let k = committing P c e commits in
       let yes : is_rebuild c.coordinator.mode ≡ true = rebuilding in
       subst (Agree P (rebuilt P (view_of P c) (wanted_in P c) t)) (sym (k.2 ∙ (λ i. with_coordinator (if yes i then rebuild_committed c.coordinator else round_committed c.coordinator) (if yes i then record c { logs = changed_at (parties c.coordinator) (λ _. committed_log) c.logs } else c))))
-      (commit-kept P t c AG rebuilding
-      (λ p m. not-false (is_up c p) (none-passes (λ q. not (is_up c q)) (parties c.coordinator) k.0 p m))
-      (λ p m. not-false (has c.coordinator.ready p) (find-none_of (λ q. not (has c.coordinator.ready q)) (parties c.coordinator) p k.1 m)))
+      (commit-kept P t c AG rebuilding all-up all-ready)
 
   -- both committed states have the same graph, and the logs say it
   pub rebuild-graph : graph_in (step P c e).0 ≡ graph_in c
