@@ -4,12 +4,14 @@ ghost use Rattle.std.specs.Prelude.{◌≡◌, ◌<◌, ◌≤◌, ◌+◌, ◌^
 ghost use Rattle.std.specs.List.{prefix_len};
 ghost use Rattle.std.specs.Vec.{vec_len, vec_capacity};
 ghost use Rattle.gr_base.specs.Rising.{RisesBy, with_item};
+ghost use Rattle.gr_log.specs.Directory.{with_items};
 ghost use Rattle.gr_arcs.specs.Layers.{EdgesRise, number_of};
 
 use crate::copies::{copy_over, make_room};
 use crate::end::End;
 use crate::index::{edges_at, index_edges};
 use gr_base::{NumberedEdge, OutOfMemory};
+use gr_numbered::merge;
 use std::alloc::Global;
 use std::marker::Model;
 
@@ -134,6 +136,28 @@ impl Arcs {
         make_room(&mut self.by_target, count)?;
         make_room(&mut self.by_source, count)?;
         put_edge(&mut self.pending, edge)?;
+        self.staged = true;
+        Ok(())
+    }
+
+    /// Adds pending edges of rising numbers, each in the place of that of its number if there is one. It takes time
+    /// linear in the pending edges and these.
+    ///
+    /// # Errors
+    ///
+    /// `OutOfMemory` if memory runs out. Then both layers are as before.
+    pub fn stage_edges(&mut self, alloc: Global, edges: &[NumberedEdge]) -> Result<(), OutOfMemory>
+        requires rise { RisesBy number_of edges.now }
+        ensures ok { OnOk result (self.new ≡ record self.old { pending = with_items number_of edges.now self.old.pending }) }
+        ensures err { OnErr result (self.new ≡ self.old) }
+    {
+        let all = merge(alloc, self.pending.as_slice(), edges)?;
+        let count = all.len();
+        make_room(&mut self.stable, count)?;
+        make_room(&mut self.by_target, count)?;
+        make_room(&mut self.by_source, count)?;
+        make_room(&mut self.pending, count)?;
+        copy_over(&mut self.pending, all.as_slice());
         self.staged = true;
         Ok(())
     }

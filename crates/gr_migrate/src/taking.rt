@@ -9,7 +9,7 @@ use crate::masters::{is_retiring, place_after};
 use gr_base::{Items, NumberedEdge, OutOfMemory};
 use gr_copies::RebuildView;
 use gr_log::EdgeLog;
-use gr_rebirth::last_of_each;
+use gr_numbered::last_of_each;
 use std::alloc::Global;
 
 /// The edges in the logs of retiring places that the cut gives to `me` under the masters after the rebuild, by rising

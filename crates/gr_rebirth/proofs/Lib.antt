@@ -1,2 +1,1 @@
-pub mod LastOfEach
 pub mod Next

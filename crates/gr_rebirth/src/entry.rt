@@ -4,6 +4,7 @@ ghost use Rattle.gr_rules.specs.Rows.{blank_copy as blank};
 
 use gr_base::PlaceSet;
 use gr_log::LogRecord;
+use gr_numbered::Numbered;
 use gr_program::{Datum, VertexCopy};
 use std::marker::Model;
 
@@ -25,6 +26,14 @@ impl Model for LogEntry {
     ghost view = { λ e. record { vertex = e.vertex; indeg = e.indeg; outdeg = e.outdeg; master = e.master; holders = e.holders } };
 
     ghost inverse = { λ e. record { vertex = e.vertex; indeg = e.indeg; outdeg = e.outdeg; master = e.master; holders = e.holders } };
+}
+
+impl Numbered for LogEntry {
+    ghost number_of = { λ e. e.vertex };
+
+    fn number(&self) -> u32 {
+        self.vertex
+    }
 }
 
 impl LogEntry {

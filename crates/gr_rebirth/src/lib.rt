@@ -3,13 +3,11 @@
 
 mod entry;
 mod granted;
-mod latest;
 mod records;
 mod spare;
 
 pub use entry::LogEntry;
 pub use granted::grant_into;
-pub use latest::{Numbered, last_of_each};
 pub use records::{directory, edges, kept_edges};
 pub use spare::{Rebuilt, blank};
 

@@ -3,9 +3,9 @@ ghost use Rattle.gr_base.specs.Rising.{RisesBy};
 ghost use Rattle.gr_log.specs.Directory.{entry_of, edge_of, directory_in, kept_edges as edges_kept, edges_in};
 
 use crate::LogEntry;
-use crate::latest::last_of_each;
 use gr_base::{Items, NumberedEdge, OutOfMemory};
 use gr_log::LogRecord;
+use gr_numbered::last_of_each;
 use std::alloc::Global;
 
 /// What records say of the vertices: the last entry of each, by rising vertex. It takes time linear-logarithmic in the

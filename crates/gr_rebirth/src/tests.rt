@@ -2,7 +2,6 @@ use super::*;
 use gr_base::{Edge, NumberedEdge, PlaceSet};
 use gr_log::{EdgeLog, LogRecord};
 use gr_program::VertexCopy;
-use gr_rows::Rows;
 use gr_sum::Amount;
 use std::test::Fail;
 
@@ -60,32 +59,5 @@ fn a_log_gives_the_last_copies_and_the_edges(rt: HostRuntime) -> Result<(), Fail
     assert_eq!(rt; rebuilt.arcs.count(), 2);
     assert_eq!(rt; rebuilt.arcs.into_vertex(1, 0), Some(edge(3, 4, 1)));
     assert_eq!(rt; rebuilt.arcs.out_of(1, 0), Some(edge(2, 1, 4)));
-    Ok(())
-}
-
-#[test]
-fn granted_copies_are_staged(rt: HostRuntime) -> Result<(), Fail> {
-    let alloc = rt.alloc();
-    let mut rows = Rows::new(alloc);
-    rows.stage_copy(copy(1, 0, None))?;
-    rows.stage_copy(copy(4, 0, None))?;
-    rows.install();
-    let body = [copy(0, 1, Some(Amount(7))), copy(4, 1, Some(Amount(8)))];
-    grant_into(alloc, &mut rows, body.as_slice())?;
-    for (i, granted) in [(0, body[0]), (1, copy(1, 0, None)), (2, body[1])] {
-        assert_eq!(rt; rows.pending_at(i), Some(granted));
-    }
-    assert_eq!(rt; rows.pending_count(), 3);
-    assert_eq!(rt; rows.get(4), Some(copy(4, 0, None)));
-    assert_eq!(rt; rows.count(), 2);
-    Ok(())
-}
-
-#[test]
-fn the_last_of_each_number_is_kept(rt: HostRuntime) -> Result<(), Fail> {
-    let alloc = rt.alloc();
-    let copies = [copy(4, 0, None), copy(1, 0, None), copy(4, 1, None)];
-    let kept = last_of_each(alloc, copies.as_slice())?;
-    assert_eq!(rt; kept.as_slice(), [copies[1], copies[2]].as_slice());
     Ok(())
 }

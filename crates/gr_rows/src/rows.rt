@@ -2,9 +2,11 @@ ghost use Rattle.std.specs.Prelude.{◌≡◌, ◌<◌, ◌≤◌, ◌+◌, ◌^
 ghost use Rattle.std.specs.List.{prefix_len};
 ghost use Rattle.std.specs.Vec.{vec_len, vec_capacity};
 ghost use Rattle.gr_base.specs.Rising.{RisesBy, with_item};
+ghost use Rattle.gr_log.specs.Directory.{with_items};
 ghost use Rattle.gr_rows.specs.Layers.{CopiesRise, vertex_of, copy_with_value, copy_with_mark};
 
 use gr_base::{OutOfMemory, holds};
+use gr_numbered::merge;
 use gr_program::{Datum, VertexCopy};
 use std::alloc::Global;
 use std::marker::Model;
@@ -138,21 +140,64 @@ impl<V: Datum> Rows<V> {
         put_copy(&mut self.pending, copy)
     }
 
+    /// Puts copies of rising vertices into the pending layer, each in the place of that of its vertex if there is one. It
+    /// takes time linear in the copies of both layers and these.
+    ///
+    /// # Errors
+    ///
+    /// `OutOfMemory` if memory runs out, or if the pending layer would hold 2^32 copies. Then both layers are as before.
+    pub fn stage_copies(
+        &mut self,
+        alloc: Global,
+        copies: &[VertexCopy<V>],
+    ) -> Result<(), OutOfMemory>
+        requires rise { RisesBy vertex_of copies.now }
+        ensures ok { OnOk result (self.new ≡ record self.old { pending = with_items vertex_of copies.now self.old.pending }) }
+        ensures err { OnErr result (self.new ≡ self.old) }
+    {
+        let all = merge(alloc, self.pending.as_slice(), copies)?;
+        if all.len() > MOST_COPIES {
+            return Err(OutOfMemory);
+        }
+        make_room(&mut self.stable, all.len())?;
+        make_room(&mut self.pending, all.len())?;
+        copy_over(&mut self.pending, all.as_slice());
+        Ok(())
+    }
+
     /// Makes the stable layer equal to the pending one, in linear time. It takes no memory.
     pub fn install(&mut self)
         ensures { self.new ≡ record self.old { stable = self.old.pending } }
     {
-        self.stable.clear();
-        let _ = self.stable.extend_from_slice(self.pending.as_slice());
+        copy_over(&mut self.stable, self.pending.as_slice());
     }
 
     /// Makes the pending layer equal to the stable one, in linear time. It takes no memory.
     pub fn discard(&mut self)
         ensures { self.new ≡ record self.old { pending = self.old.stable } }
     {
-        self.pending.clear();
-        let _ = self.pending.extend_from_slice(self.stable.as_slice());
+        copy_over(&mut self.pending, self.stable.as_slice());
     }
+}
+
+/// Reserves the room for this many copies in all.
+fn make_room<V: Datum>(copies: &mut Vec<VertexCopy<V>>, count: usize) -> Result<(), OutOfMemory>
+    ensures items { copies.new.items ≡ copies.old.items }
+    ensures room { OnOk result (count ≤ vec_capacity copies.new) }
+    ensures capacity { vec_capacity copies.old ≤ vec_capacity copies.new }
+{
+    copies.reserve(count.saturating_sub(copies.len()))?;
+    Ok(())
+}
+
+/// Makes a list of copies equal to another, for which it has room, in linear time.
+fn copy_over<V: Datum>(copies: &mut Vec<VertexCopy<V>>, from: &[VertexCopy<V>])
+    requires { length from.now ≤ vec_capacity copies.old }
+    ensures items { copies.new.items ≡ from.now }
+    ensures capacity { vec_capacity copies.old ≤ vec_capacity copies.new }
+{
+    copies.clear();
+    let _ = copies.extend_from_slice(from);
 }
 
 /// How many copies have a vertex below this one.

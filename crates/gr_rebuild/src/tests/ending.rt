@@ -1,11 +1,9 @@
 ghost use Rattle.std.specs.Prelude.{◌≡◌};
 
-use crate::{record, stage};
-use gr_arcs::Arcs;
+use crate::record;
 use gr_base::{Edge, NumberedEdge, PlaceSet};
 use gr_log::{EdgeLog, LogRecord};
 use gr_program::VertexCopy;
-use gr_rows::Rows;
 use gr_sum::Amount;
 use std::test::Fail;
 
@@ -32,37 +30,6 @@ fn edge(number: u32, src: u32, dst: u32) -> NumberedEdge
             weight: 1,
         },
     }
-}
-
-#[test]
-fn what_is_granted_and_taken_is_staged(rt: HostRuntime) -> Result<(), Fail> {
-    let alloc = rt.alloc();
-    let mut rows = Rows::new(alloc);
-    rows.stage_copy(copy(1, None))?;
-    rows.stage_copy(copy(4, None))?;
-    rows.install();
-    let mut arcs = Arcs::new(alloc);
-    arcs.stage_edge(edge(3, 4, 1))?;
-    arcs.install();
-    let granted = [copy(4, Some(Amount(8))), copy(7, Some(Amount(9)))];
-    let taken = [edge(2, 1, 4)];
-    stage(
-        alloc,
-        &mut rows,
-        &mut arcs,
-        granted.as_slice(),
-        taken.as_slice(),
-    )?;
-    for (i, staged) in [(0, copy(1, None)), (1, granted[0]), (2, granted[1])] {
-        assert_eq!(rt; rows.pending_at(i), Some(staged));
-    }
-    assert_eq!(rt; rows.count(), 2);
-    assert_eq!(rt; rows.get(4), Some(copy(4, None)));
-    assert_eq!(rt; arcs.count(), 1);
-    arcs.install();
-    assert_eq!(rt; arcs.edges_into(4), taken.as_slice());
-    assert_eq!(rt; arcs.count(), 2);
-    Ok(())
 }
 
 #[test]

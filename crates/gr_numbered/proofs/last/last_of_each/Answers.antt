@@ -12,8 +12,8 @@ use Rattle.gr_base.proofs.Rising.{rises-nil}
 use Rattle.gr_lists.proofs.Chosen.{map-undone}
 use Rattle.gr_lists.proofs.Items.{items-rise}
 use Rattle.gr_log.specs.Directory.{with_items}
-use Rattle.gr_rebirth.proofs.LastOfEach.{numbered, insert_entry-numbered}
-use Rattle.gr_rebirth.proofs.latest.last_of_each.Goals as goal
+use Rattle.gr_numbered.proofs.LastOfEach.{numbered, insert_entry-numbered}
+use Rattle.gr_numbered.proofs.last.last_of_each.Goals as goal
 
 pub loop-item-preserved : goal.loop-item-preserved
 loop-item-preserved g c =
