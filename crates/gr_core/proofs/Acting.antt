@@ -28,9 +28,10 @@ use Rattle.gr_cluster.specs.Todo.{others, todo}
 use Rattle.gr_cluster.specs.Place.{staged_rows, staged_arcs, batch_to, body_to}
 use Rattle.gr_cluster.specs.Work.{computed_host, sent_host, worked}
 use Rattle.gr_law_network.proofs.Frame.{with_host-same}
+use Rattle.gr_law_relies.specs.Law.{MayReport}
 use Rattle.gr_law_round.proofs.Todo.{case-todo}
 use Rattle.gr_core.specs.Steps.{line_of, copies_of, next_of, answer_of, acted_host, takes_memory}
-use Rattle.gr_core.specs.Works.{MayWork, MaySend, MayReport, NeedsHold}
+use Rattle.gr_core.specs.Works.{MayWork, MaySend, NeedsHold}
 
 -- a stage of a round has the body of a round
 module _ {V A : Type 0} (P : Program V A) (k : Cluster V A) (p : ℕ) (h : Host V A) where
@@ -257,10 +258,6 @@ module _ {V A : Type 0} (P : Program V A) (k : Cluster V A) (p : ℕ) (h : Host 
       (λ q o le le' comp no_end un e. absurd (let bad : true ≡ false = e in cc))
       (λ o le le' comp rep end e. refl)
 
-pub OnOk-set : {X E Y : Type 0} (r : Result X E) (xs : List Y) (i j : ℕ) (x y : Y) → i ≡ j → OnOk r (x ≡ y) → OnOk r (set xs i x ≡ set xs j y)
-OnOk-set (Ok o) xs i j x y e is = λ n. set xs (e n) (is n)
-OnOk-set (Err o) xs i j x y e is = tt
-
 -- what a call that succeeds gives, by another name of it
 pub IfOk-same : {V A E : Type 0} (d : Cluster V A) (a b : Cluster V A × Outcome V A) (r : Result (Outcome V A) E) → a ≡ b → IfOk r (λ o. (d, o) ≡ a) → IfOk r (λ o. (d, o) ≡ b)
 IfOk-same d a b (Ok o) same is = is ∙ same
@@ -279,6 +276,11 @@ pub record Up {X : Type 0} (o : Option X) : Type 0 where
 pub up-is : {X : Type 0} (o : Option X) → IsSome o → Up o
 up-is None s = absurd (let bad : false ≡ true = s in cc)
 up-is (Some x) s = record { it = x; is = refl }
+
+-- what holds of whatever an option has
+pub IfSome-each : {X : Type 0} {R : X → Type 0} (o : Option X) → ((x : X) → o ≡ Some x → R x) → IfSome o R
+IfSome-each None each = tt
+IfSome-each (Some x) each = each x refl
 
 pub OnErr-then : {X E Y : Type 0} (r : Result X E) (a b c : Y) → b ≡ c → OnErr r (a ≡ b) → OnErr r (a ≡ c)
 OnErr-then (Ok o) a b c e is = tt

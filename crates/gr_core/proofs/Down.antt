@@ -1,11 +1,12 @@
 -- Those of some places whose machines are down, found place by place.
-use Rattle.std.proofs.Common.{◌≡◌, ◌+◌, ℕ, List, [], ◌∷◌, Bool, true, false, not, ◌==◌, ◌&&◌, nat_lt, refl, sym, ap, ◌∙◌, arith, length, filter, ltb-true, ltb-false, lt-ltb, eqb-true, eq-eqb, None}
+use Rattle.std.proofs.Common.{◌≡◌, ◌+◌, ◌<◌, ℕ, List, [], ◌∷◌, Bool, true, false, not, ◌==◌, ◌&&◌, nat_lt, refl, sym, ap, ◌∙◌, subst, arith, length, filter, ltb-true, ltb-false, lt-ltb, eqb-true, eq-eqb, None}
 use Rattle.std.specs.Prelude.{is_some}
 use Rattle.std.proofs.lemmas.Bool.{le-ltb, and_right}
 use Rattle.std.proofs.lemmas.List.{get_or_past}
 use Rattle.std.specs.List.{list_all, AllByRecursion as Each}
-use Rattle.gr_base.specs.Rising.{has, includes}
-use Rattle.gr_base.specs.Places.{without_place}
+use Rattle.gr_base.specs.Rising.{has, without, includes}
+use Rattle.gr_base.specs.Places.{IsPlaces, without_place}
+use Rattle.gr_base.proofs.PlaceTests.{has-contains}
 use Rattle.gr_cluster.specs.Tables.{Cluster, is_up}
 use Rattle.gr_cluster.specs.Step.{down_among}
 use Rattle.gr_lists.proofs.Each.{Each-filter, Each-has}
@@ -65,6 +66,16 @@ module _ (up : ℕ → Bool) (ps : List ℕ) where
           (λ y. let a = ltb-true q (p + 1) y in let b = ltb-false q p n in let e : q ≡ p = omega (arith, a, b) in absurd (let bad : true ≡ false = sym u ∙ (ap up e ∙ off) in cc))
           (λ z. rw (n, z) refl)))
           (λ d. rw (d, and_right (nat_lt q p) false refl, and_right (nat_lt q (p + 1)) false refl) refl)
+
+-- a set has no place past 64
+module _ (down : List ℕ) (set : IsPlaces down) where
+  pub left-set : (ps : List ℕ) → left_below (has down) 64 ps ≡ without ps down
+  left-set ps = filter-agree _ _ at ps
+    where
+      at : (q : ℕ) → not (nat_lt q 64 && has down q) ≡ not (has down q)
+      at q = by_test (has down q)
+          (λ m. let place = has-contains down q m in let lt : q < 64 = subst (λ p. p < 64) place.2 (set.below place.0 q place.1) in rw (m, lt-ltb q 64 lt) refl)
+          (λ n. rw (n, and_right (nat_lt q 64) false refl) refl)
 
 -- no place past the table is up
 module _ {V A : Type 0} (c : Cluster V A) (n : ℕ) (whole : length c.hosts ≡ n) where

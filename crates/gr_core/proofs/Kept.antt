@@ -1,36 +1,21 @@
 -- What is known of every cluster, and that each event keeps it.
 use Rattle.std.proofs.Common.{◌≡◌, ◌<◌, false, sym, subst, Result, Ok, Err}
-use Rattle.std.specs.Prelude.{IsTrue, IfOk, OnErr}
-use Rattle.std.proofs.lemmas.Bool.{both_ways}
+use Rattle.std.specs.Prelude.{IfOk, OnErr}
 use Rattle.gr_program.specs.Program.{Program, ProgramLaws}
 use Rattle.gr_batch.specs.declared.outcome.Outcome.{Outcome}
 use Rattle.gr_sched.specs.declared.event.Event.{Event}
-use Rattle.gr_view.specs.Modes.{is_over, is_rebuild}
+use Rattle.gr_view.specs.Modes.{is_over}
 use Rattle.gr_cluster.specs.Tables.{Cluster}
 use Rattle.gr_cluster.specs.Step.{step}
 use Rattle.gr_agree.specs.Laws.{NamesPlaces}
 use Rattle.gr_law_runs.proofs.Plain.{round-below}
-use Rattle.gr_law_events.specs.Law.{drives}
-use Rattle.gr_law_events.proofs.Events.{event-agrees}
+use Rattle.gr_law_ends.proofs.Events.{invariant-after}
 use Rattle.gr_core.specs.Tables.{Agrees}
-use Rattle.gr_core.proofs.Reborn.{BearsNone, none-reborn}
 
 module _ {V A : Type 0} (P : Program V A) (L : ProgramLaws P) (c : Cluster V A) (K : Agrees P c) where
-  keeps-on : (e : Event) → NamesPlaces e → BearsNone e → (IsTrue (is_rebuild c.coordinator.mode) → drives e ≡ false) → Agrees P (step P c e).0
-  keeps-on e names bears off =
-      let D = event-agrees P L K.state c K.holds e names off in record {
-        state = D.state;
-        holds = D.agrees;
-        none_reborn = none-reborn P c K.none_reborn e bears;
-      }
-
-  -- where no rebuild is open every event keeps it
-  pub keeps-outside : (e : Event) → NamesPlaces e → BearsNone e → is_rebuild c.coordinator.mode ≡ false → Agrees P (step P c e).0
-  keeps-outside e names bears none = keeps-on e names bears (λ y. absurd (both_ways (is_rebuild c.coordinator.mode) none y))
-
-  -- and in a rebuild every event but a work and a barrier
-  pub keeps-besides : (e : Event) → NamesPlaces e → BearsNone e → drives e ≡ false → Agrees P (step P c e).0
-  keeps-besides e names bears off = keeps-on e names bears (λ y. off)
+  -- every event keeps it
+  pub keeps : (e : Event) → NamesPlaces e → Agrees P (step P c e).0
+  keeps e names = let I = (invariant-after P L K.state c K.holds e names).0 in record { state = I.0; holds = I.1 }
 
   -- until the run is over the committed rounds are below the limit
   pub rounds-below : is_over c.coordinator.mode ≡ false → c.coordinator.round < c.coordinator.limit

@@ -1,6 +1,6 @@
 -- A place whose turn it is to act has what its work needs.
 use Rattle.std.proofs.Common.{◌≡◌, ℕ, ◌+◌, ◌<◌, ◌≤◌, ◌^◌, true, false, not, cond, ◌==◌, ◌&&◌, refl, sym, ap, ◌∙◌, subst, arith, Option, Some, None, ltb-false, nat_lt}
-use Rattle.std.specs.Prelude.{IsTrue, ◌||◌}
+use Rattle.std.specs.Prelude.{IsTrue}
 use Rattle.std.proofs.lemmas.Bool.{and_right}
 use Rattle.std.proofs.lemmas.List.Sums.{count_by-le-length}
 use Rattle.gr_base.specs.Rising.{has}
@@ -8,7 +8,6 @@ use Rattle.gr_program.specs.Program.{Program, ProgramLaws}
 use Rattle.gr_batch.specs.declared.stage.Stage.{Stage}
 use Rattle.gr_batch.specs.declared.stage.Stage.TheVariants as stage
 use Rattle.gr_sched.specs.declared.event.Event.TheVariants as event
-use Rattle.gr_view.specs.declared.coordinator.Mode.{Mode}
 use Rattle.gr_view.specs.declared.coordinator.Mode.TheVariants as mode
 use Rattle.gr_view.specs.Modes.{is_over, is_open, is_failed, is_rebuild, is_round}
 use Rattle.gr_rules.specs.Todo.{Todo}
@@ -34,17 +33,9 @@ use Rattle.gr_law_needs.proofs.Act.{may-act}
 use Rattle.gr_core.specs.declared.turn.Turn.TheVariants as turn
 use Rattle.gr_core.specs.Turns.{turn_of}
 use Rattle.gr_core.specs.Works.{MayWork}
-use Rattle.gr_core.proofs.Turns.{turn-act, work-step}
+use Rattle.gr_core.proofs.Turns.{turn-act, rests-failed, work-step}
 use Rattle.gr_core.proofs.Network.{step-taken}
 use Rattle.gr_lists.proofs.Tests.{by_test}
-
-round-running : (m : Mode) → is_round m ≡ true → m ≡ mode.Running
-round-running mode.Running r = refl
-round-running mode.Failed r = absurd (let bad : false ≡ true = r in cc)
-round-running mode.Recovering r = absurd (let bad : false ≡ true = r in cc)
-round-running mode.Repairing r = absurd (let bad : false ≡ true = r in cc)
-round-running mode.Done r = absurd (let bad : false ≡ true = r in cc)
-round-running mode.Lost r = absurd (let bad : false ≡ true = r in cc)
 
 stage-of-round : (s : Stage) → IsRoundStage s → IsTrue (is_of_round s)
 stage-of-round stage.Gather r = refl
@@ -79,11 +70,12 @@ module _ {V A : Type 0} (P : Program V A) (L : ProgramLaws P) (t : Truth V) (c :
         let few = AG.committed.sound.few in
         omega (arith, sum, le, few)
 
-    pub may-work : turn_of c.coordinator (Some h) ≡ turn.Act → MayWork P c.coordinator p h
-    may-work is =
-        let T = turn-act c.coordinator (Some h) is in
+    acts-here : turn_of c.coordinator (Some h) ≡ turn.Act → MayWork P c.coordinator p h
+    acts-here is =
+        let W = turn-act c.coordinator (Some h) is in
+        let T = W.0 in
         let same : h ≡ T.at = let e = T.is in cc in
-        let running = round-running c.coordinator.mode T.round in
+        let running = W.1 in
         let le : c.coordinator.commits ≤ h.installed = subst (λ x. c.coordinator.commits ≤ x.installed) (sym same) (ltb-false T.at.installed c.coordinator.commits T.installed) in
         let le' : c.coordinator.epoch ≤ h.epoch = subst (λ x. c.coordinator.epoch ≤ x.epoch) (sym same) (ltb-false T.at.epoch c.coordinator.epoch T.adopted) in
         let O = opened P t c AG none p h at in
@@ -98,13 +90,9 @@ module _ {V A : Type 0} (P : Program V A) (L : ProgramLaws P) (t : Truth V) (c :
           report = λ told. record { party = party P t c AG none p h at; first = ap not (not-yet (fresh-report told)); sum = due-few running told };
         }
 
-  failed-mode : (m : Mode) → is_over m ≡ false → is_rebuild m ≡ false → is_round m ≡ false → is_failed m ≡ true
-  failed-mode mode.Failed o r n = refl
-  failed-mode mode.Running o r n = absurd (let bad : true ≡ false = n in cc)
-  failed-mode mode.Recovering o r n = absurd (let bad : true ≡ false = r in cc)
-  failed-mode mode.Repairing o r n = absurd (let bad : true ≡ false = r in cc)
-  failed-mode mode.Done o r n = absurd (let bad : true ≡ false = o in cc)
-  failed-mode mode.Lost o r n = absurd (let bad : true ≡ false = o in cc)
+module _ {V A : Type 0} (P : Program V A) (L : ProgramLaws P) (t : Truth V) (c : Cluster V A) (AG : Agree P t c) (over : is_over c.coordinator.mode ≡ false) (p : ℕ) where
+  pub may-work : (h : Host V A) → host c p ≡ Some h → turn_of c.coordinator (Some h) ≡ turn.Act → MayWork P c.coordinator p h
+  may-work h at is = acts-here P L t c AG over (ap is_rebuild (turn-act c.coordinator (Some h) is).1) p h at is
 
   -- a place whose turn it is not rests
   pub rest-here : (h : Host V A) → host c p ≡ Some h → turn_of c.coordinator (Some h) ≡ turn.Rest → todo c.coordinator p h ≡ Todo.Rest
@@ -113,18 +101,17 @@ module _ {V A : Type 0} (P : Program V A) (L : ProgramLaws P) (t : Truth V) (c :
       (λ i. absurd (let e = rw i at is in cc))
       (λ i. by_test (nat_lt h.epoch c.coordinator.epoch)
       (λ n. absurd (let e = rw (i, n) at is in cc))
-      (λ n. by_test (is_round c.coordinator.mode)
-      (λ r. absurd (let e = rw (i, n, r) at is in cc))
-      (λ r.
-      let O = opened P t c AG none p h at in
+      (λ n.
+      let failed : c.coordinator.mode ≡ mode.Failed = rests-failed c.coordinator.mode over (rw (i, n) at is) in
+      let O = opened P t c AG (ap is_rebuild failed) p h at in
       let le = ltb-false h.epoch c.coordinator.epoch n in
       let now : h.epoch ≡ c.coordinator.epoch = let o = O.epoch in omega (arith, o, le) in
-      let zero' = (O.at_epoch now).idle (failed-mode c.coordinator.mode over none r) in
+      let zero' = (O.at_epoch now).idle (ap is_failed failed) in
       let off : h.computed ≡ false = by_test h.computed
       (λ y. absurd (let one : progress h ≡ place_in h.stage + 1 = ap (λ b. place_in h.stage + cond b 1 0) y in omega (arith, one, zero')))
       (λ y. y) in
-      let closed : is_open c.coordinator.mode ≡ false = ap (λ b. b || is_rebuild c.coordinator.mode) r ∙ none in
-      rw (over, i, n, closed, off) refl)))
+      let closed : is_open c.coordinator.mode ≡ false = ap is_open failed in
+      rw (over, i, n, closed, off) refl))
 
   rest-at : (o : Option (Host V A)) → host c p ≡ o → turn_of c.coordinator o ≡ turn.Rest → worked_at P c p o ≡ (c, outcome.Idle)
   unfolding worked

@@ -6,9 +6,11 @@ use Rattle.std.proofs.lemmas.List.{append-nil}
 use Rattle.std.proofs.lemmas.List.Sums.{fold-append}
 use Rattle.std.proofs.lemmas.Grind.{flat_map-append}
 use Rattle.gr_base.specs.Places.{below}
-use Rattle.gr_base.specs.Rising.{with_item}
+use Rattle.gr_base.specs.Rising.{RisesBy, with_item}
+use Rattle.gr_base.proofs.Rising.{rises-nil}
 use Rattle.gr_program.specs.declared.copy.VertexCopy.{VertexCopy}
 use Rattle.gr_program.specs.declared.program.ValueOf.{ValueOf}
+use Rattle.gr_lists.proofs.Items.{items-rise}
 use Rattle.gr_log.specs.Directory.{with_items}
 use Rattle.gr_cluster.specs.Tables.{Host, Cluster, host, effective}
 use Rattle.gr_cluster.specs.Ending.{values_at}
@@ -49,3 +51,6 @@ module _ {V A : Type 0} (c : Cluster V A) where
       ∙ (ap (λ l. with_items vertex_in l []) (flat_map-append (values_at c) (below p) (p ∷ []))
       ∙ (fold-append put [] (flat_map (values_at c) (below p)) (flat_map (values_at c) (p ∷ []))
       ∙ ap (λ l. with_items vertex_in l (merged_below p)) (append-nil (values_at c p))))
+
+  pub merged-rises : (p : ℕ) → RisesBy vertex_in (merged_below p)
+  merged-rises p = items-rise vertex_in (flat_map (values_at c) (below p)) [] (rises-nil vertex_in)

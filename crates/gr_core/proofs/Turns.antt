@@ -6,7 +6,9 @@ use Rattle.gr_log.specs.Log.{Log, cut_log}
 use Rattle.gr_batch.specs.declared.outcome.Outcome.TheVariants as outcome
 use Rattle.gr_sched.specs.declared.event.Event.TheVariants as event
 use Rattle.gr_view.specs.declared.coordinator.Coordinator.{Coordinator}
-use Rattle.gr_view.specs.Modes.{is_over, is_round}
+use Rattle.gr_view.specs.declared.coordinator.Mode.{Mode}
+use Rattle.gr_view.specs.declared.coordinator.Mode.TheVariants as mode
+use Rattle.gr_view.specs.Modes.{is_over, is_rebuild}
 use Rattle.gr_rules.specs.Todo.{Todo}
 use Rattle.gr_rules.specs.Taken.{log_at}
 use Rattle.gr_cluster.specs.Tables.{Host, Cluster, host}
@@ -15,8 +17,48 @@ use Rattle.gr_cluster.specs.Work.{installed_host, adopted_host, worked, worked_a
 use Rattle.gr_cluster.specs.Step.{step}
 use Rattle.gr_lists.proofs.Tests.{by_test}
 use Rattle.gr_core.specs.declared.turn.Turn.TheVariants as turn
-use Rattle.gr_core.specs.Turns.{turn_of}
+use Rattle.gr_core.specs.Turns.{turn_in, turn_of}
 use Rattle.gr_core.proofs.Network.{step-taken}
+
+no-install : (m : Mode) → turn_in m ≡ turn.Install → ⊥
+no-install mode.Running e = cc
+no-install mode.Failed e = cc
+no-install mode.Recovering e = cc
+no-install mode.Repairing e = cc
+no-install mode.Done e = cc
+no-install mode.Lost e = cc
+
+no-adopt : (m : Mode) → turn_in m ≡ turn.Adopt → ⊥
+no-adopt mode.Running e = cc
+no-adopt mode.Failed e = cc
+no-adopt mode.Recovering e = cc
+no-adopt mode.Repairing e = cc
+no-adopt mode.Done e = cc
+no-adopt mode.Lost e = cc
+
+acts-running : (m : Mode) → turn_in m ≡ turn.Act → m ≡ mode.Running
+acts-running mode.Running e = refl
+acts-running mode.Failed e = absurd (cc)
+acts-running mode.Recovering e = absurd (cc)
+acts-running mode.Repairing e = absurd (cc)
+acts-running mode.Done e = absurd (cc)
+acts-running mode.Lost e = absurd (cc)
+
+rebuilds-rebuilding : (m : Mode) → turn_in m ≡ turn.Rebuild → is_rebuild m ≡ true
+rebuilds-rebuilding mode.Recovering e = refl
+rebuilds-rebuilding mode.Repairing e = refl
+rebuilds-rebuilding mode.Running e = absurd (cc)
+rebuilds-rebuilding mode.Failed e = absurd (cc)
+rebuilds-rebuilding mode.Done e = absurd (cc)
+rebuilds-rebuilding mode.Lost e = absurd (cc)
+
+pub rests-failed : (m : Mode) → is_over m ≡ false → turn_in m ≡ turn.Rest → m ≡ mode.Failed
+rests-failed mode.Failed o e = refl
+rests-failed mode.Running o e = absurd (cc)
+rests-failed mode.Recovering o e = absurd (cc)
+rests-failed mode.Repairing o e = absurd (cc)
+rests-failed mode.Done o e = absurd (let bad : true ≡ false = o in cc)
+rests-failed mode.Lost o e = absurd (let bad : true ≡ false = o in cc)
 
 module _ {V A : Type 0} (co : Coordinator) where
   pub record Installs (o : Option (Host V A)) : Type 0 where
@@ -30,12 +72,12 @@ module _ {V A : Type 0} (co : Coordinator) where
     pub installed : nat_lt at.installed co.commits ≡ false
     pub less : nat_lt at.epoch co.epoch ≡ true
 
-  pub record Acts (o : Option (Host V A)) : Type 0 where
+  -- it has installed and adopted, and the mode has work for it
+  pub record Works (o : Option (Host V A)) : Type 0 where
     pub at : Host V A
     pub is : o ≡ Some at
     pub installed : nat_lt at.installed co.commits ≡ false
     pub adopted : nat_lt at.epoch co.epoch ≡ false
-    pub round : is_round co.mode ≡ true
 
   pub turn-install : (o : Option (Host V A)) → turn_of co o ≡ turn.Install → Installs o
   turn-install None e = absurd (cc)
@@ -43,7 +85,7 @@ module _ {V A : Type 0} (co : Coordinator) where
       (λ i. record { at = h; is = refl; less = i })
       (λ i. absurd (by_test (nat_lt h.epoch co.epoch)
       (λ n. let e' = rw (i, n) at e in cc)
-      (λ n. by_test (is_round co.mode) (λ r. let e' = rw (i, n, r) at e in cc) (λ r. let e' = rw (i, n, r) at e in cc))))
+      (λ n. no-install co.mode (rw (i, n) at e))))
 
   pub turn-adopt : (o : Option (Host V A)) → turn_of co o ≡ turn.Adopt → Adopts o
   turn-adopt None e = absurd (cc)
@@ -51,17 +93,23 @@ module _ {V A : Type 0} (co : Coordinator) where
       (λ i. absurd (let e' = rw i at e in cc))
       (λ i. by_test (nat_lt h.epoch co.epoch)
       (λ n. record { at = h; is = refl; installed = i; less = n })
-      (λ n. absurd (by_test (is_round co.mode) (λ r. let e' = rw (i, n, r) at e in cc) (λ r. let e' = rw (i, n, r) at e in cc))))
+      (λ n. absurd (no-adopt co.mode (rw (i, n) at e))))
 
-  pub turn-act : (o : Option (Host V A)) → turn_of co o ≡ turn.Act → Acts o
+  pub turn-act : (o : Option (Host V A)) → turn_of co o ≡ turn.Act → Works o × (co.mode ≡ mode.Running)
   turn-act None e = absurd (cc)
   turn-act (Some h) e = by_test (nat_lt h.installed co.commits)
       (λ i. absurd (let e' = rw i at e in cc))
       (λ i. by_test (nat_lt h.epoch co.epoch)
       (λ n. absurd (let e' = rw (i, n) at e in cc))
-      (λ n. by_test (is_round co.mode)
-      (λ r. record { at = h; is = refl; installed = i; adopted = n; round = r })
-      (λ r. absurd (let e' = rw (i, n, r) at e in cc))))
+      (λ n. (record { at = h; is = refl; installed = i; adopted = n }, acts-running co.mode (rw (i, n) at e))))
+
+  pub turn-rebuild : (o : Option (Host V A)) → turn_of co o ≡ turn.Rebuild → Works o × (is_rebuild co.mode ≡ true)
+  turn-rebuild None e = absurd (cc)
+  turn-rebuild (Some h) e = by_test (nat_lt h.installed co.commits)
+      (λ i. absurd (let e' = rw i at e in cc))
+      (λ i. by_test (nat_lt h.epoch co.epoch)
+      (λ n. absurd (let e' = rw (i, n) at e in cc))
+      (λ n. (record { at = h; is = refl; installed = i; adopted = n }, rebuilds-rebuilding co.mode (rw (i, n) at e))))
 
 module _ {V A : Type 0} (P : Program V A) (c : Cluster V A) (p : ℕ) (over : is_over c.coordinator.mode ≡ false) where
   pub work-step : (h : Host V A) (x : Todo) → host c p ≡ Some h → todo c.coordinator p h ≡ x → step P c (event.Work p) ≡ worked P c p h x

@@ -1,4 +1,6 @@
+pub mod Decided
 pub mod Loaded
+pub mod Rebuilds
 pub mod Steps
 pub mod Tables
 pub mod Turns

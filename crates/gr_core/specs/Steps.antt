@@ -8,10 +8,6 @@ use Rattle.gr_batch.specs.declared.outcome.Outcome.{Outcome}
 use Rattle.gr_batch.specs.declared.outcome.Outcome.TheVariants as outcome
 use Rattle.gr_sched.specs.declared.event.Event.{Event}
 use Rattle.gr_sched.specs.declared.event.Event.TheVariants as event
-use Rattle.gr_view.specs.declared.coordinator.Verdict.{Verdict}
-use Rattle.gr_view.specs.declared.coordinator.Verdict.TheVariants as verdict
-use Rattle.gr_view.specs.declared.coordinator.Opening.{Opening}
-use Rattle.gr_view.specs.declared.coordinator.Opening.TheVariants as opening
 use Rattle.gr_rules.specs.Todo.{Todo}
 use Rattle.gr_round.specs.declared.act.Act.{Act}
 use Rattle.gr_round.specs.declared.view.RoundView.{RoundView}
@@ -58,25 +54,3 @@ takes_memory (event.Work p) (outcome.Computed s) = true
 takes_memory (event.Work p) (outcome.Sent n s q) = true
 takes_memory (event.Work p) (outcome.Appended n) = true
 takes_memory _ _ = false
-
--- the outcome of a barrier, by the verdict of the coordinator
-abbrev pub told_of : {V A : Type 0} → Verdict → Outcome V A
-told_of (verdict.Failed ps) = outcome.Failed ps
-told_of (verdict.Committed n r d) = outcome.Committed n r d
-told_of (verdict.NotReady p) = outcome.NotReady p
-told_of verdict.Idle = outcome.Idle
-
--- the outcome of a recovery, with the number of lost vertices
-abbrev pub opened_of : {V A : Type 0} → ℕ → Opening → Outcome V A
-opened_of n (opening.Opened e) = outcome.Opened e
-opened_of n opening.Lost = outcome.LostFound n
-opened_of n opening.Idle = outcome.Idle
-
--- the outcome of a repair, and of a discard, by the new epoch
-abbrev pub opened_in : {V A : Type 0} → Option ℕ → Outcome V A
-opened_in None = outcome.Idle
-opened_in (Some e) = outcome.Opened e
-
-abbrev pub discarded_in : {V A : Type 0} → Option ℕ → Outcome V A
-discarded_in None = outcome.Idle
-discarded_in (Some e) = outcome.Discarded e

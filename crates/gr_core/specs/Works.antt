@@ -1,6 +1,5 @@
 -- What the work of a place in a round needs, by its host.
-use Rattle.std.specs.Prelude.{ℕ, ◌≡◌, ◌<◌, ◌+◌, ◌^◌, false, not, IsTrue, IsSome, List, Option, map}
-use Rattle.gr_base.specs.Rising.{has}
+use Rattle.std.specs.Prelude.{ℕ, ◌≡◌, false, IsTrue, IsSome, List, Option, map}
 use Rattle.gr_base.specs.Places.{without_place}
 use Rattle.gr_program.specs.Program.{Program}
 use Rattle.gr_rows.specs.Layers.{vertex_of}
@@ -9,7 +8,6 @@ use Rattle.gr_batch.specs.declared.batch.Batch.{Batch}
 use Rattle.gr_batch.specs.Stages.{is_end}
 use Rattle.gr_view.specs.declared.coordinator.Coordinator.{Coordinator}
 use Rattle.gr_view.specs.declared.coordinator.Mode.TheVariants as mode
-use Rattle.gr_view.specs.Decisions.{parties}
 use Rattle.gr_rules.specs.Exchange.{unsent}
 use Rattle.gr_rules.specs.Todo.{Todo}
 use Rattle.gr_rules.specs.AtPlace.{due_count}
@@ -20,6 +18,7 @@ use Rattle.gr_round.specs.Needs.{ValuesFit, GathersFit, UpdatesFit, SignalsRise,
 use Rattle.gr_cluster.specs.Tables.{Host, Cluster}
 use Rattle.gr_cluster.specs.Todo.{todo}
 use Rattle.gr_law_needs.specs.Law.{MayAct}
+use Rattle.gr_law_relies.specs.Law.{MayReport}
 
 -- the copies, the edges and the inbox of a host are fit for the work of a round
 pub record NeedsHold {V A : Type 0} (P : Program V A) (p : ℕ) (w : RoundView) (h : Host V A) : Type 0 where
@@ -36,12 +35,6 @@ pub record MaySend {V A : Type 0} (others : List ℕ) (h : Host V A) : Type 0 wh
   pub computed : IsTrue h.computed
   pub unfinished : is_end h.stage ≡ false
   pub left : IsSome (unsent others h.sent)
-
--- the coordinator has room for the report of a party that has not reported
-pub record MayReport (co : Coordinator) (p due : ℕ) : Type 0 where
-  pub party : IsTrue (has (parties co) p)
-  pub first : IsTrue (not (has co.ready p))
-  pub sum : co.due + due < 2 ^ 32
 
 -- a place has installed every commit and adopted the epoch of a round, and has what its work there needs
 pub record MayWork {V A : Type 0} (P : Program V A) (co : Coordinator) (p : ℕ) (h : Host V A) : Type 0 where

@@ -6,12 +6,19 @@ ghost use Rattle.gr_cluster.specs.Load.{load};
 ghost use Rattle.gr_core.specs.Loaded.{setting_of};
 ghost use Rattle.gr_core.specs.Tables as tables;
 
+mod back;
 mod barrier;
 mod can_work;
 mod crash;
+mod discard;
+mod down;
+mod lost;
 mod network;
+mod rebuild;
 mod recover;
+mod repair;
 mod results;
+mod spares;
 mod step;
 mod work;
 

@@ -13,19 +13,20 @@ ghost use Rattle.gr_low.specs.Sources.{SourcesReady};
 ghost use Rattle.gr_round.specs.Needs.{ValuesFit, GathersFit, UpdatesFit, SignalsRise, CallsRise};
 ghost use Rattle.gr_round.specs.Todo.{is_told};
 ghost use Rattle.gr_cluster.specs.Load.{fresh_host};
+ghost use Rattle.gr_cluster.specs.Stages.{first_stage};
 ghost use Rattle.gr_cluster.specs.Network.{fate_at, received};
 ghost use Rattle.gr_cluster.specs.Work.{installed_host, adopted_host, sent_host};
 ghost use Rattle.gr_core.specs.Steps.{next_of, answer_of, acted_host};
 ghost use Rattle.gr_core.specs.Tables.{copy_in};
 ghost use Rattle.gr_core.specs.Turns.{turn_of};
 
+mod rebuild;
 mod values;
 
-use crate::rebuild_line::RebuildLine;
-use crate::turn::{Turn, is_round};
+use crate::turn::{Turn, turn_in};
 use gr_arcs::Arcs;
 use gr_base::{OutOfMemory, PlaceSet};
-use gr_batch::{Batch, Fate, copy_of};
+use gr_batch::{Batch, Fate, Stage, copy_of};
 use gr_flight::Inbox;
 use gr_program::{VertexCopy, VertexProgram};
 use gr_round::{Act, PlaceRound, RoundView};
@@ -35,7 +36,7 @@ use std::alloc::Global;
 use std::marker::Model;
 
 /// What the machine of a place holds: its copies and edges, the batches that came, the epoch that it has adopted, how
-/// many commits it has installed, and how far it is in its round or its rebuild.
+/// many commits it has installed, how far it is in its round or its rebuild, and whether it has appended to its log there.
 #[derive(Drop)]
 pub struct Host<P: VertexProgram> {
     pub(crate) rows: Rows<P::Value>,
@@ -44,19 +45,16 @@ pub struct Host<P: VertexProgram> {
     pub(crate) epoch: u64,
     pub(crate) installed: u64,
     pub(crate) round: PlaceRound,
-    pub(crate) rebuild: RebuildLine,
+    pub(crate) appended: bool,
 }
 
 impl<P: VertexProgram> Model for Host<P> {
     ghost use Rattle.gr_cluster.specs.Tables as tables;
-    ghost use Rattle.std.specs.Prelude.{IsTrue};
-    ghost use Rattle.gr_core.specs.Tables.{host_of, is_in_round};
+    ghost use Rattle.gr_core.specs.Tables.{host_of};
 
     ghost Value = { tables.Host P.Value P.Acc };
 
-    ghost view = { λ h. host_of h.rows h.arcs h.inbox h.epoch h.installed h.round h.rebuild };
-
-    ghost invariant = { λ h. IsTrue (is_in_round h.rebuild.stage) };
+    ghost view = { λ h. host_of h.rows h.arcs h.inbox h.epoch h.installed h.round h.appended };
 }
 
 impl<P: VertexProgram> Host<P> {
@@ -73,7 +71,31 @@ impl<P: VertexProgram> Host<P> {
             epoch: 0,
             installed: 0,
             round: PlaceRound::new(),
-            rebuild: RebuildLine::none(),
+            appended: false,
+        }
+    }
+
+    // The host of a spare that starts in the place of a dead one, with what its log gave back, in a new epoch of a
+    // rebuild and with so many commits installed.
+    pub(crate) fn spare(
+        alloc: Global,
+        rows: Rows<P::Value>,
+        arcs: Arcs,
+        epoch: u64,
+        commits: u64,
+    ) -> Host<P>
+        requires copies { rows.pending ≡ rows.stable }
+        requires edges { arcs.pending ≡ arcs.stable }
+        ensures { result ≡ fresh_host rows.stable arcs.stable epoch commits stage.Ask }
+    {
+        Host {
+            rows,
+            arcs,
+            inbox: Inbox::new(alloc),
+            epoch,
+            installed: commits,
+            round: PlaceRound::before(Stage::Ask),
+            appended: false,
         }
     }
 
@@ -126,11 +148,7 @@ impl<P: VertexProgram> Host<P> {
         if self.epoch < coordinator.epoch {
             return Turn::Adopt;
         }
-        if is_round(coordinator.mode) {
-            Turn::Act
-        } else {
-            Turn::Rest
-        }
+        turn_in(coordinator.mode)
     }
 
     // What is pending takes effect. It gives how many commits are installed then.
@@ -145,16 +163,16 @@ impl<P: VertexProgram> Host<P> {
         self.installed
     }
 
-    // A new epoch is adopted, in which no rebuild is open.
-    pub(crate) fn adopt(&mut self, epoch: u64)
-        ensures { (m : Mode) → is_rebuild m ≡ false → self.new ≡ adopted_host epoch m self.old }
+    // A new epoch is adopted, in which a rebuild is open or none.
+    pub(crate) fn adopt(&mut self, epoch: u64, rebuild: bool)
+        ensures { (m : Mode) → is_rebuild m ≡ rebuild → self.new ≡ adopted_host epoch m self.old }
     {
         self.rows.discard();
         self.arcs.discard();
         self.inbox.forget_below(epoch);
         self.epoch = epoch;
-        self.round.reset();
-        self.rebuild = RebuildLine::none();
+        self.round = PlaceRound::before(first_stage(rebuild));
+        self.appended = false;
     }
 
     // Does what comes next at the place `me` in a round of an epoch that it has adopted.
@@ -204,4 +222,11 @@ impl<P: VertexProgram> Host<P> {
     {
         self.round.note_sent(me, parties);
     }
+}
+
+// The stage that a place begins an epoch with.
+fn first_stage(rebuild: bool) -> Stage
+    ensures { (m : Mode) → is_rebuild m ≡ rebuild → result ≡ first_stage m }
+{
+    if rebuild { Stage::Ask } else { Stage::Gather }
 }

@@ -2,7 +2,7 @@
 ghost use Rattle.std.specs.Prelude.{◌≡◌, ◌≤◌, ◌<◌, ◌-◌, ◌^◌, true, length};
 ghost use Rattle.gr_view.specs.Modes as modes;
 
-use crate::{Cluster, Host, RebuildLine};
+use crate::{Cluster, Host};
 use gr_base::{OutOfMemory, PlaceSet};
 use gr_batch::{Outcome, Stage};
 use gr_edges::read_graph;
@@ -24,6 +24,8 @@ fn loaded(alloc: Global, graph: &[u8], job: &[u8]) -> Result<Cluster<Shortest>, 
 
 const TWO_PLACES: &[u8] = b"places = 2\nprogram = \"shortest\"\nsource = 0\n";
 
+const WITH_A_SPARE: &[u8] = b"places = 2\nprogram = \"shortest\"\nsource = 0\nspares = 1\n";
+
 const THREE_PLACES: &[u8] = b"places = 3\nprogram = \"shortest\"\nsource = 0\n";
 
 fn triangle(alloc: Global) -> Result<Cluster<Shortest>, Fail> {
@@ -37,18 +39,8 @@ fn copy_at(cluster: &Cluster<Shortest>, p: u8, v: u32) -> Option<VertexCopy<Dist
     None
 }
 
-// Whether a recovery or a repair is open.
-fn is_rebuild(mode: Mode) -> bool
-    ensures { result ≡ modes.is_rebuild mode }
-{
-    match mode {
-        Mode::Recovering | Mode::Repairing => true,
-        _ => false,
-    }
-}
-
 fn can_work(cluster: &Cluster<Shortest>, p: u8) -> bool {
-    if p >= cluster.places() || is_rebuild(cluster.mode()) {
+    if p >= cluster.places() {
         return false;
     }
     cluster.can_work(p)
@@ -117,7 +109,7 @@ fn has_room(cluster: &Cluster<Shortest>) -> bool
     coordinator.epoch != u64::MAX && coordinator.commits != u64::MAX
 }
 
-// The outcome of an event, where nothing forbids it.
+// The outcome of an event, if nothing forbids it.
 fn take(
     cluster: &mut Cluster<Shortest>,
     event: Event,
@@ -125,29 +117,45 @@ fn take(
     if !has_room(cluster) {
         return Ok(None);
     }
-    let rebuild = is_rebuild(cluster.mode());
     match event {
-        Event::Work(p) => {
-            if p >= cluster.places() || rebuild {
-                return Ok(None);
-            }
-            Ok(Some(cluster.step(event)?))
-        }
-        Event::Crash(p, _) => {
+        Event::Work(p) | Event::Crash(p, _) => {
             if p >= cluster.places() {
                 return Ok(None);
             }
             Ok(Some(cluster.step(event)?))
         }
-        Event::Barrier => {
-            if rebuild {
-                return Ok(None);
-            }
-            Ok(Some(cluster.step(event)?))
-        }
-        Event::Recover(_) => Ok(Some(cluster.step(Event::Recover(PlaceSet::none()))?)),
         _ => Ok(Some(cluster.step(event)?)),
     }
+}
+
+// Takes an event, if nothing forbids it.
+fn play(cluster: &mut Cluster<Shortest>, event: Event) -> Result<(), OutOfMemory> {
+    let _outcome = take(cluster, event)?;
+    Ok(())
+}
+
+// Works and deliveries in turn, until there is nothing left to do in a round or a rebuild of two places.
+fn settle(cluster: &mut Cluster<Shortest>) -> Result<(), OutOfMemory> {
+    for _ in 0..30 {
+        for event in [
+            Event::Work(0),
+            Event::Work(1),
+            Event::Deliver(0),
+            Event::Discarded(0),
+        ] {
+            play(cluster, event)?;
+        }
+    }
+    Ok(())
+}
+
+// Rounds and rebuilds one after the other, each with its barrier.
+fn go_on(cluster: &mut Cluster<Shortest>) -> Result<(), OutOfMemory> {
+    for _ in 0..5 {
+        settle(cluster)?;
+        play(cluster, Event::Barrier)?;
+    }
+    Ok(())
 }
 
 // The `i`-th value of a run that is done: its vertex and its distance.
@@ -173,13 +181,7 @@ fn a_graph_without_vertices_is_done_at_load(rt: HostRuntime) -> Result<(), Fail>
 fn a_run_ends_with_the_distances(rt: HostRuntime) -> Result<(), Fail> {
     let mut cluster = triangle(rt.alloc())?;
     assert_eq!(rt; result_at(&cluster, 0)?, None);
-    for _ in 0..100 {
-        take(&mut cluster, Event::Work(1))?;
-        take(&mut cluster, Event::Work(0))?;
-        take(&mut cluster, Event::Deliver(0))?;
-        take(&mut cluster, Event::Discarded(0))?;
-        take(&mut cluster, Event::Barrier)?;
-    }
+    go_on(&mut cluster)?;
     assert_eq!(rt; (cluster.mode(), cluster.rounds()), (Mode::Done, 2));
     assert_eq!(rt;
         (can_work(&cluster, 0), can_work(&cluster, 1)),
@@ -294,44 +296,72 @@ fn what_is_opened_is_dropped_again(rt: HostRuntime) -> Result<(), Fail> {
 }
 
 #[test]
+fn a_recovery_goes_on_to_the_distances(rt: HostRuntime) -> Result<(), Fail> {
+    let last = PlaceSet::none().with(1);
+    for (rebirth, live) in [
+        (last, PlaceSet::all(2)),
+        (PlaceSet::none(), PlaceSet::none().with(0)),
+    ] {
+        let mut cluster = loaded(rt.alloc(), b"0 1\n1 2\n0 2", WITH_A_SPARE)?;
+        settle(&mut cluster)?;
+        for event in [Event::Crash(1, 0), Event::Barrier, Event::Recover(rebirth)] {
+            play(&mut cluster, event)?;
+        }
+        assert_eq!(rt; cluster.mode(), Mode::Recovering);
+        go_on(&mut cluster)?;
+        assert_eq!(rt; (cluster.mode(), cluster.rounds()), (Mode::Done, 2));
+        assert_eq!(rt; (cluster.up(), cluster.coordinator().live), (live, live));
+        for (i, value) in [
+            (0, Some((0, 0))),
+            (1, Some((1, 1))),
+            (2, Some((2, 1))),
+            (3, None),
+        ] {
+            assert_eq!(rt; result_at(&cluster, i)?, value);
+        }
+    }
+    Ok(())
+}
+
+#[test]
 fn the_types_have_these_fields_and_no_others(rt: HostRuntime) -> Result<(), Fail> {
-    let cluster = triangle(rt.alloc())?;
+    let mut cluster = triangle(rt.alloc())?;
+    settle(&mut cluster)?;
+    play(&mut cluster, Event::Crash(0, 0))?;
     let Cluster {
         alloc: _,
         hosts,
         logs,
-        flight: _,
+        flight,
         serial,
-        coordinator: _,
-        places: _,
+        coordinator,
+        places,
         losses,
         theta,
         program,
     } = &cluster;
-    assert_eq!(rt; (hosts.len(), logs.len(), *serial), (2, 2, 0));
+    assert_eq!(rt; (hosts.len(), logs.len(), *places), (2, 2, 2));
+    assert_eq!(rt; (flight.len(), *serial, coordinator.epoch), (0, 8, 0));
     assert_eq!(rt; (*losses, *theta, program.source), (1, 100, 0));
-    if let Some(Some(host)) = hosts.get(1) {
-        let Host {
-            rows,
-            arcs,
-            inbox: _,
-            epoch,
-            installed,
-            round: _,
-            rebuild,
-        } = host;
-        assert_eq!(rt; (rows.count(), arcs.count()), (3, 1));
-        assert_eq!(rt; (*epoch, *installed), (0, 0));
-        let RebuildLine {
-            stage,
-            computed,
-            sent,
-            appended,
-            reported,
-        } = rebuild;
-        assert_eq!(rt; *stage, Stage::Gather);
-        assert_eq!(rt; *sent, PlaceSet::none());
-        assert!(rt; !(*computed | *appended | *reported));
-    }
+    let found = match hosts.as_slice() {
+        [None, Some(host)] => {
+            let Host {
+                rows,
+                arcs,
+                inbox: _,
+                epoch,
+                installed,
+                round,
+                appended,
+            } = host;
+            assert_eq!(rt; (rows.count(), arcs.count()), (3, 1));
+            assert_eq!(rt; (*epoch, *installed), (0, 0));
+            assert_eq!(rt; round.stage(), Stage::End);
+            assert!(rt; !*appended);
+            true
+        }
+        _ => false,
+    };
+    assert!(rt; found);
     Ok(())
 }

@@ -8,8 +8,8 @@ use Rattle.gr_batch.specs.declared.stage.Stage.{Stage}
 use Rattle.gr_rules.specs.Inbox.{missing}
 use Rattle.gr_rules.specs.Exchange.{Exchange, needed, unsent}
 use Rattle.gr_rules.specs.Todo.{Todo, compute_or_wait, send_or_rest, todo_in_round}
-use Rattle.gr_round.specs.Line.{is_line, is_of_round}
-use Rattle.gr_round.specs.Todo.{AwaitsSending}
+use Rattle.gr_round.specs.Line.{is_line}
+use Rattle.gr_round.specs.Todo.{todo_in_rebuild, AwaitsSending}
 
 module _ {V A : Type 0} (inbox : List (Batch V A)) (e : ℕ) (others : List ℕ) (x : Exchange) (reported : Bool) where
   pub todo-computes : not x.computed ≡ true → todo_in_round inbox e others x reported ≡ compute_or_wait inbox e others (needed false x.stage)
@@ -27,6 +27,28 @@ module _ {V A : Type 0} (inbox : List (Batch V A)) (e : ℕ) (others : List ℕ)
   pub todo-rests : not x.computed ≡ false → not (is_end x.stage) ≡ false → not reported ≡ false → todo_in_round inbox e others x reported ≡ Todo.Rest
   unfolding todo_in_round
   todo-rests h i r = rw (h, i, r) refl
+
+-- the same in a rebuild
+module _ {V A : Type 0} (inbox : List (Batch V A)) (e : ℕ) (others : List ℕ) (x : Exchange) (appended reported : Bool) where
+  pub rebuild-computes : not x.computed ≡ true → todo_in_rebuild inbox e others x appended reported ≡ compute_or_wait inbox e others (needed true x.stage)
+  unfolding todo_in_rebuild
+  rebuild-computes h = rw h refl
+
+  pub rebuild-sends : not x.computed ≡ false → not (is_end x.stage) ≡ true → todo_in_rebuild inbox e others x appended reported ≡ send_or_rest (unsent others x.sent)
+  unfolding todo_in_rebuild
+  rebuild-sends h i = rw (h, i) refl
+
+  pub rebuild-appends : not x.computed ≡ false → not (is_end x.stage) ≡ false → not appended ≡ true → todo_in_rebuild inbox e others x appended reported ≡ Todo.Append
+  unfolding todo_in_rebuild
+  rebuild-appends h i a = rw (h, i, a) refl
+
+  pub rebuild-reports : not x.computed ≡ false → not (is_end x.stage) ≡ false → not appended ≡ false → not reported ≡ true → todo_in_rebuild inbox e others x appended reported ≡ Todo.Report
+  unfolding todo_in_rebuild
+  rebuild-reports h i a r = rw (h, i, a, r) refl
+
+  pub rebuild-rests : not x.computed ≡ false → not (is_end x.stage) ≡ false → not appended ≡ false → not reported ≡ false → todo_in_rebuild inbox e others x appended reported ≡ Todo.Rest
+  unfolding todo_in_rebuild
+  rebuild-rests h i a r = rw (h, i, a, r) refl
 
 -- ---- what is known of the exchange by what is next
 
@@ -87,13 +109,12 @@ module _ {V A : Type 0} (inbox : List (Batch V A)) (e : ℕ) (others : List ℕ)
     ]
 
     line-reported : IsTrue (is_line (record { exchange = x; reported = reported })) → IsTrue reported → (x.computed ≡ true) × (is_end x.stage ≡ true)
-    line-reported l r = both (is_of_round x.stage) x.computed (is_end x.stage) (subst (λ b. IsTrue (is_of_round x.stage && (not b || (x.computed && is_end x.stage)))) r l)
+    line-reported l r = both x.computed (is_end x.stage) (subst (λ b. IsTrue (not b || (x.computed && is_end x.stage))) r l)
       where
-        both : (a b c : Bool) → IsTrue (a && (false || (b && c))) → (b ≡ true) × (c ≡ true)
-        both true true true t = (refl, refl)
-        both true true false t = absurd (true≢false (sym t))
-        both true false c t = absurd (true≢false (sym t))
-        both false b c t = absurd (true≢false (sym t))
+        both : (b c : Bool) → IsTrue (false || (b && c)) → (b ≡ true) × (c ≡ true)
+        both true true t = (refl, refl)
+        both true false t = absurd (true≢false (sym t))
+        both false c t = absurd (true≢false (sym t))
 
     -- it rests exactly once it has reported
     pub rests-reported : IsTrue (is_line (record { exchange = x; reported = reported })) → AwaitsSending others x → (todo_in_round inbox e others x reported ≡ Todo.Rest) ↔ IsTrue reported

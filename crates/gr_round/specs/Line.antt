@@ -1,4 +1,4 @@
--- What contracts see of how far a place is in a round.
+-- What contracts see of how far a place is in a round, or in a rebuild.
 use Rattle.std.specs.Prelude.{Bool, true, false, not, ◌&&◌, ◌||◌}
 use Rattle.gr_batch.specs.declared.stage.Stage.{Stage}
 use Rattle.gr_batch.specs.declared.stage.Stage.TheVariants as stage
@@ -10,9 +10,13 @@ pub record RoundLine : Type 0 where
   pub exchange : Exchange
   pub reported : Bool
 
+-- the start of an epoch, before a stage
+abbrev pub line_before : Stage → RoundLine
+line_before s = record { exchange = begun s; reported = false }
+
 -- the start of a round
 abbrev pub first_line : RoundLine
-first_line = record { exchange = begun stage.Gather; reported = false }
+first_line = line_before stage.Gather
 
 -- whether it is a stage of a round
 abbrev pub is_of_round : Stage → Bool
@@ -20,6 +24,13 @@ is_of_round stage.Ask = false
 is_of_round stage.Grant = false
 is_of_round _ = true
 
--- a place goes through the stages of a round, and reports once the end is computed
+-- whether it is a stage of a rebuild
+abbrev pub is_of_rebuild : Stage → Bool
+is_of_rebuild stage.Ask = true
+is_of_rebuild stage.Grant = true
+is_of_rebuild stage.End = true
+is_of_rebuild _ = false
+
+-- a place reports once the end is computed
 abbrev pub is_line : RoundLine → Bool
-is_line l = is_of_round l.exchange.stage && (not l.reported || (l.exchange.computed && is_end l.exchange.stage))
+is_line l = not l.reported || (l.exchange.computed && is_end l.exchange.stage)

@@ -1,10 +1,10 @@
--- What a place does next in a round, as its code names it.
-use Rattle.std.specs.Prelude.{◌≡◌, ℕ, Bool, true, false, IsTrue, IsSome, List}
+-- What a place does next in a round or in a rebuild, as its code names it.
+use Rattle.std.specs.Prelude.{◌≡◌, ℕ, Bool, true, false, not, IsTrue, IsSome, List, if◌then◌else◌}
 use Rattle.gr_base.specs.Places.{without_place}
 use Rattle.gr_batch.specs.declared.batch.Batch.{Batch}
 use Rattle.gr_batch.specs.Stages.{is_end}
-use Rattle.gr_rules.specs.Exchange.{Exchange, unsent}
-use Rattle.gr_rules.specs.Todo.{Todo, todo_in_round}
+use Rattle.gr_rules.specs.Exchange.{Exchange, needed, unsent}
+use Rattle.gr_rules.specs.Todo.{Todo, compute_or_wait, send_or_rest, todo_in_round}
 use Rattle.gr_round.specs.declared.step.Step.{Step}
 use Rattle.gr_round.specs.declared.step.Step.TheVariants as step
 use Rattle.gr_round.specs.declared.view.RoundView.{RoundView}
@@ -13,6 +13,7 @@ use Rattle.gr_round.specs.Line.{RoundLine}
 abbrev pub todo_of : Step → Todo
 todo_of step.Compute = Todo.Compute
 todo_of (step.Send q) = Todo.Send q
+todo_of step.Append = Todo.Append
 todo_of step.Report = Todo.Report
 todo_of (step.Wait s q) = Todo.Wait s q
 todo_of step.Rest = Todo.Rest
@@ -29,6 +30,15 @@ AwaitsSending others x = IsTrue x.computed → is_end x.stage ≡ false → IsSo
 -- what the place p does next, by the view, its inbox and its line
 abbrev pub next_at : {V A : Type 0} → ℕ → RoundView → List (Batch V A) → RoundLine → Todo
 next_at p w inbox l = todo_in_round inbox w.epoch (without_place w.parties p) l.exchange l.reported
+
+-- in a rebuild, at a place that has adopted its epoch: like in a round, but it appends to its log before it reports
+unfoldable pub todo_in_rebuild : {V A : Type 0} → List (Batch V A) → ℕ → List ℕ → Exchange → Bool → Bool → Todo
+todo_in_rebuild inbox e others x appended reported =
+    if not x.computed then compute_or_wait inbox e others (needed true x.stage)
+    else if not (is_end x.stage) then send_or_rest (unsent others x.sent)
+    else if not appended then Todo.Append
+    else if not reported then Todo.Report
+    else Todo.Rest
 
 -- it only tells something: that it waits, rests, or is ready
 abbrev pub is_told : Todo → Bool

@@ -116,7 +116,7 @@ impl PlaceRound {
                 Ok(Act::Ready(due_count(rows, me)))
             }
             Step::Wait(stage, from) => Ok(Act::Waiting(stage, from)),
-            Step::Rest => Ok(Act::Rest),
+            Step::Append | Step::Rest => Ok(Act::Rest),
         }
     }
 }

@@ -4,8 +4,9 @@ ghost use Rattle.gr_rules.specs.AtPlace.{due_count};
 use gr_program::{Datum, VertexCopy};
 use gr_rows::Rows;
 
-/// How many vertices that a place masters are due in its pending copies.
-pub(crate) fn due_count<V: Datum>(rows: &Rows<V>, place: u8) -> u32
+/// How many vertices that a place masters are due in its pending copies. It takes no memory, and time linear in the
+/// number of copies.
+pub fn due_count<V: Datum>(rows: &Rows<V>, place: u8) -> u32
     ensures { result ≡ due_count place rows.now.pending }
 {
     // A look at the length tells that it has 32 bits.

@@ -1,4 +1,5 @@
-//! What a place does in a round: it computes the stages, sends their batches to the other parties, and reports.
+//! What a place does in a round: it computes the stages, sends their batches to the other parties, and reports. How far
+//! it is in a rebuild, and what it does next there, goes by the same stages.
 #![tactic(auto)]
 
 mod act;
@@ -13,7 +14,9 @@ mod values;
 mod view;
 
 pub use act::Act;
-pub use line::PlaceRound;
+pub use due::due_count;
+pub use line::{PlaceRound, is_end, others_of};
+pub use step::Step;
 pub use view::RoundView;
 
 #[cfg(test)]

@@ -3,8 +3,8 @@ ghost use Rattle.gr_base.specs.Places.{without_place};
 ghost use Rattle.gr_batch.specs.Stages.{is_end, stage_after};
 ghost use Rattle.gr_rules.specs.Exchange.{needed, unsent, passed, computed, sent_to};
 ghost use Rattle.gr_rules.specs.Todo.{Todo, compute_or_wait, send_or_rest, is_act};
-ghost use Rattle.gr_round.specs.Line.{first_line, is_line, is_of_round};
-ghost use Rattle.gr_round.specs.Todo.{todo_of, place_to, next_at, AwaitsSending};
+ghost use Rattle.gr_round.specs.Line.{line_before, first_line};
+ghost use Rattle.gr_round.specs.Todo.{todo_of, place_to, next_at, todo_in_rebuild, AwaitsSending};
 
 use crate::step::Step;
 use crate::view::RoundView;
@@ -14,8 +14,8 @@ use gr_flight::Inbox;
 use gr_program::Datum;
 use std::marker::Model;
 
-/// How far a place is in a round: the stage, whether it is computed, the places that its batches were sent to, and
-/// whether the place has reported in this epoch.
+/// How far a place is in a round, or in a rebuild: the stage, whether it is computed, the places that its batches were
+/// sent to, and whether the place has reported in this epoch.
 ///
 /// No list is kept: what was sent and staged is computed anew from copies, edges and inbox.
 #[derive(Debug, Drop)]
@@ -42,8 +42,15 @@ impl PlaceRound {
     pub fn new() -> PlaceRound
         ensures { result ≡ first_line }
     {
+        PlaceRound::before(Stage::Gather)
+    }
+
+    /// The start of an epoch, before the stage that it begins with. It takes no memory.
+    pub fn before(stage: Stage) -> PlaceRound
+        ensures { result ≡ line_before stage }
+    {
         PlaceRound {
-            stage: Stage::Gather,
+            stage,
             computed: false,
             sent: PlaceSet::none(),
             reported: false,
@@ -82,7 +89,37 @@ impl PlaceRound {
         }
     }
 
-    /// What the place does next.
+    /// What the place does next in a rebuild of an epoch that it has adopted: like in a round, but it appends to its log
+    /// before it reports. It takes no memory, and a search of the inbox for each other party.
+    pub fn next_in_rebuild<V: Datum, A: Datum>(
+        &self,
+        me: u8,
+        epoch: u64,
+        parties: PlaceSet,
+        inbox: &Inbox<V, A>,
+        appended: bool,
+    ) -> Step
+        ensures next { todo_of result ≡ todo_in_rebuild inbox.now epoch (without_place parties me) self.now.exchange appended self.now.reported }
+        ensures place { place_to result < 64 }
+    {
+        let others = others_of(parties, me);
+        if !self.computed {
+            return compute_or_wait(inbox, epoch, others, needed(true, self.stage));
+        }
+        if !is_end(self.stage) {
+            return send_or_rest(others, self.sent);
+        }
+        if !appended {
+            return Step::Append;
+        }
+        if self.reported {
+            Step::Rest
+        } else {
+            Step::Report
+        }
+    }
+
+    /// What the place does next in a round.
     pub(crate) fn next_step<V: Datum, A: Datum>(
         &self,
         me: u8,
@@ -95,7 +132,7 @@ impl PlaceRound {
     {
         let others = others_of(view.parties, me);
         if !self.computed {
-            return compute_or_wait(inbox, view.epoch, others, self.stage);
+            return compute_or_wait(inbox, view.epoch, others, needed(false, self.stage));
         }
         if !is_end(self.stage) {
             return send_or_rest(others, self.sent);
@@ -124,15 +161,15 @@ impl PlaceRound {
     }
 
     /// The stage.
-    pub(crate) fn stage(&self) -> Stage
-        ensures stage { result ≡ self.now.exchange.stage }
-        ensures line { IsTrue (is_line self.now) }
+    pub fn stage(&self) -> Stage
+        ensures { result ≡ self.now.exchange.stage }
     {
         self.stage
     }
 
-    /// Notes that the stage is computed. Where there is no other party the next stage begins, but for the end.
-    pub(crate) fn note_computed(&mut self, others: PlaceSet)
+    /// Notes that the stage is computed. Where there is no other party the next stage begins, except after the end. It
+    /// takes no memory.
+    pub fn note_computed(&mut self, others: PlaceSet)
         requires { self.old.exchange.computed ≡ false }
         ensures { self.new ≡ record self.old { exchange = computed (unsent others []) self.old.exchange } }
     {
@@ -143,8 +180,8 @@ impl PlaceRound {
         }
     }
 
-    /// Notes that the place has reported.
-    pub(crate) fn note_reported(&mut self)
+    /// Notes that the place has reported. It takes no memory.
+    pub fn note_reported(&mut self)
         requires computed { IsTrue self.old.exchange.computed }
         requires end { IsTrue (is_end self.old.exchange.stage) }
         ensures { self.new ≡ record self.old { reported = true } }
@@ -155,7 +192,6 @@ impl PlaceRound {
 
 /// The line at a computed stage, which is passed where no party is left to send to.
 fn passed_line(left: Option<u8>, stage: Stage, sent: PlaceSet) -> PlaceRound
-    requires { IsTrue (is_of_round stage) }
     ensures { result ≡ record { exchange = passed left (record { stage = stage; computed = true; sent = sent }); reported = false } }
 {
     match left {
@@ -165,17 +201,12 @@ fn passed_line(left: Option<u8>, stage: Stage, sent: PlaceSet) -> PlaceRound
             sent,
             reported: false,
         },
-        None => PlaceRound {
-            stage: stage_after(stage),
-            computed: false,
-            sent: PlaceSet::none(),
-            reported: false,
-        },
+        None => PlaceRound::before(stage_after(stage)),
     }
 }
 
-/// The parties but one.
-pub(crate) fn others_of(parties: PlaceSet, me: u8) -> PlaceSet
+/// The parties without one of them.
+pub fn others_of(parties: PlaceSet, me: u8) -> PlaceSet
     ensures { result ≡ without_place parties me }
 {
     // A look into the set tells that its places are below 64.
@@ -187,17 +218,17 @@ pub(crate) fn others_of(parties: PlaceSet, me: u8) -> PlaceSet
     }
 }
 
-/// Computes the stage where the batches that it needs are there, or else waits for the first that is missing.
+/// Computes a stage where the batches that it needs are there, or else waits for the first that is missing.
 fn compute_or_wait<V: Datum, A: Datum>(
     inbox: &Inbox<V, A>,
     epoch: u64,
     others: PlaceSet,
-    stage: Stage,
+    needs: Option<Stage>,
 ) -> Step
-    ensures next { todo_of result ≡ compute_or_wait inbox.now epoch others (needed false stage) }
+    ensures next { todo_of result ≡ compute_or_wait inbox.now epoch others needs }
     ensures place { place_to result < 64 }
 {
-    let Some(needs) = needed(stage) else {
+    let Some(needs) = needs else {
         return Step::Compute;
     };
     match inbox.has_all(epoch, needs, others) {
@@ -217,9 +248,9 @@ fn send_or_rest(others: PlaceSet, sent: PlaceSet) -> Step
     }
 }
 
-/// The stage whose batches a stage needs.
-fn needed(stage: Stage) -> Option<Stage>
-    ensures { result ≡ needed false stage }
+/// The stage whose batches a stage of a rebuild, or of a round, needs.
+fn needed(rebuild: bool, stage: Stage) -> Option<Stage>
+    ensures { result ≡ needed rebuild stage }
 {
     match stage {
         Stage::Gather | Stage::Ask => None,
@@ -227,6 +258,7 @@ fn needed(stage: Stage) -> Option<Stage>
         Stage::Signal => Some(Stage::Update),
         Stage::Call => Some(Stage::Signal),
         Stage::Grant => Some(Stage::Ask),
+        Stage::End if rebuild => Some(Stage::Grant),
         Stage::End => Some(Stage::Call),
     }
 }
@@ -244,8 +276,8 @@ fn stage_after(stage: Stage) -> Stage
     }
 }
 
-/// Whether it is the end.
-fn is_end(stage: Stage) -> bool
+/// Whether it is the end, of a round or of a rebuild.
+pub fn is_end(stage: Stage) -> bool
     ensures { result ≡ is_end stage }
 {
     match stage {

@@ -1,21 +1,30 @@
-ghost use Rattle.std.specs.Prelude.{◌≡◌, ◌<◌, ◌-◌, ◌^◌, false};
+ghost use Rattle.std.specs.Prelude.{◌≡◌, ◌<◌, ◌≤◌, ◌-◌, ◌^◌, ℕ, false, [], length, IsTrue};
+ghost use Rattle.gr_base.specs.Rising.{has as is_in};
 ghost use Rattle.gr_sched.specs.declared.event.Event.TheVariants as event;
+ghost use Rattle.gr_view.specs.declared.coordinator.Verdict.TheVariants as decided;
 ghost use Rattle.gr_view.specs.Modes.{is_over, is_rebuild};
 ghost use Rattle.gr_view.specs.Decisions as decisions;
-ghost use Rattle.gr_cluster.specs.Step.{step, down_among};
-ghost use Rattle.gr_core.specs.Steps.{told_of, discarded_in};
+ghost use Rattle.gr_view.specs.Decisions.{parties};
+ghost use Rattle.gr_log.specs.Log.{committed_log};
+ghost use Rattle.gr_rules.specs.Taken.{log_at};
+ghost use Rattle.gr_cluster.specs.Tables.{changed_at};
+ghost use Rattle.gr_cluster.specs.Step.{step};
+ghost use Rattle.gr_core.specs.Decided.{told_of, hosts_after, logs_after};
 
 use crate::cluster::Cluster;
+use crate::cluster::back::{going_back, send_back};
+use crate::host::Host;
+use crate::turn::is_rebuild;
 use gr_base::PlaceSet;
 use gr_batch::Outcome;
-use gr_program::{Datum, VertexProgram};
+use gr_log::EdgeLog;
+use gr_program::VertexProgram;
 use gr_view::{Coordinator, Mode, Verdict};
 
 impl<P: VertexProgram> Cluster<P> {
     // The coordinator looks at the places that take part, and decides.
     pub(crate) fn barrier(&mut self) -> Outcome<P::Value, P::Acc>
         requires going { is_over self.old.cluster.coordinator.mode ≡ false }
-        requires no_rebuild { is_rebuild self.old.cluster.coordinator.mode ≡ false }
         requires epoch { self.old.cluster.coordinator.epoch < 2 ^ 64 - 1 }
         requires commits { self.old.cluster.coordinator.commits < 2 ^ 64 - 1 }
         ensures step { (self.new.cluster, result) ≡ step (P.program_of self.old.program) self.old.cluster event.Barrier }
@@ -23,32 +32,10 @@ impl<P: VertexProgram> Cluster<P> {
     {
         // A look at the limit tells that it has 32 bits; until the run is over the committed rounds are below it.
         let _limit = self.coordinator.limit;
-        let down = self.down_among(looked_at(&self.coordinator));
-        outcome_of(self.coordinator.barrier(down))
-    }
-
-    // The open round, or the open rebuild, is dropped.
-    pub(crate) fn discard(&mut self) -> Outcome<P::Value, P::Acc>
-        requires going { is_over self.old.cluster.coordinator.mode ≡ false }
-        requires epoch { self.old.cluster.coordinator.epoch < 2 ^ 64 - 1 }
-        ensures step { (self.new.cluster, result) ≡ step (P.program_of self.old.program) self.old.cluster event.Discard }
-        ensures program { self.new.program ≡ self.old.program }
-    {
-        let down = self.down_among(self.coordinator.parties());
-        discarded(self.coordinator.discard(down))
-    }
-
-    /// Those of some places whose machines are down.
-    pub fn down_among(&self, places: PlaceSet) -> PlaceSet
-        ensures { result ≡ down_among self.now.cluster places }
-    {
-        let mut down = places;
-        for p in 0..self.places() {
-            if self.hosts[usize::from(p)].is_some() {
-                down = down.without(p);
-            }
-        }
-        down
+        let before = self.coordinator;
+        let down = self.down_among(looked_at(&before));
+        let verdict = self.coordinator.barrier(down);
+        carry_out(&mut self.hosts, &mut self.logs, &before, down, verdict)
     }
 }
 
@@ -62,24 +49,47 @@ fn looked_at(coordinator: &Coordinator) -> PlaceSet
     }
 }
 
-// What a barrier tells.
-fn outcome_of<V: Datum, A: Datum>(verdict: Verdict) -> Outcome<V, A>
-    ensures { result ≡ told_of verdict }
+// What a verdict makes of the hosts and the logs, by the coordinator before it and the places that are down, and what it
+// tells. After a failure the hosts of reborn places go back; a rebuild's commit commits the logs of the parties.
+fn carry_out<P: VertexProgram>(
+    hosts: &mut Vec<Option<Host<P>>>,
+    logs: &mut Vec<EdgeLog>,
+    before: &Coordinator,
+    down: PlaceSet,
+    verdict: Verdict,
+) -> Outcome<P::Value, P::Acc>
+    requires few_hosts { length hosts.old.items ≤ 64 }
+    requires few_logs { length logs.old.items ≤ 64 }
+    requires whole { (n r d p : ℕ) → verdict ≡ decided.Committed n r d → IsTrue (is_rebuild before.now.mode) → IsTrue (is_in (parties before.now) p) → (log_at logs.old.items p).torn ≡ [] }
+    ensures hosts { hosts.new.items ≡ hosts_after before.now down verdict hosts.old.items }
+    ensures logs { logs.new.items ≡ logs_after before.now down verdict logs.old.items }
+    ensures outcome { result ≡ told_of verdict }
 {
     match verdict {
-        Verdict::Failed(places) => Outcome::Failed(places),
-        Verdict::Committed(commits, rounds, due) => Outcome::Committed(commits, rounds, due),
+        Verdict::Failed(places) => {
+            send_back(hosts, logs, going_back(before.reborn, down));
+            Outcome::Failed(places)
+        }
+        Verdict::Committed(commits, rounds, due) => {
+            if is_rebuild(before.mode) {
+                commit_logs(logs, before.parties());
+            }
+            Outcome::Committed(commits, rounds, due)
+        }
         Verdict::NotReady(p) => Outcome::NotReady(p),
         Verdict::Idle => Outcome::Idle,
     }
 }
 
-// What a discard tells.
-fn discarded<V: Datum, A: Datum>(epoch: Option<u64>) -> Outcome<V, A>
-    ensures { result ≡ discarded_in epoch }
+// The logs of some places are committed. None may have a torn record.
+fn commit_logs(logs: &mut Vec<EdgeLog>, places: PlaceSet)
+    requires few { length logs.old.items ≤ 64 }
+    requires whole { (p : ℕ) → IsTrue (is_in places p) → (log_at logs.old.items p).torn ≡ [] }
+    ensures { logs.new.items ≡ changed_at places (λ _. committed_log) logs.old.items }
 {
-    match epoch {
-        Some(epoch) => Outcome::Discarded(epoch),
-        None => Outcome::Idle,
+    for p in 0..logs.len() as u8 {
+        if places.has(p) {
+            logs[usize::from(p)].commit();
+        }
     }
 }

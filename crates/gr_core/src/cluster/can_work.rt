@@ -1,6 +1,6 @@
 ghost use Rattle.std.specs.Prelude.{◌≡◌, ◌<◌, false, Some};
-ghost use Rattle.gr_view.specs.Modes.{is_rebuild};
 ghost use Rattle.gr_rules.specs.Todo.{is_act};
+ghost use Rattle.gr_round.specs.Todo.{todo_of};
 ghost use Rattle.gr_cluster.specs.Tables.{Host as Held, host};
 ghost use Rattle.gr_cluster.specs.Todo.{can_work};
 ghost use Rattle.gr_core.specs.Steps.{next_of};
@@ -9,15 +9,13 @@ use crate::cluster::Cluster;
 use crate::host::Host;
 use crate::turn::{Turn, is_over};
 use gr_program::VertexProgram;
-use gr_round::RoundView;
+use gr_round::{RoundView, Step};
 
 impl<P: VertexProgram> Cluster<P> {
     /// Whether the next work of a place does something: its outcome is neither that it waits nor that it is idle. It
-    /// takes no memory, and time in proportion to the batches in the inbox of the place. It is not asked yet while a
-    /// recovery or a repair is open.
+    /// takes no memory, and time in proportion to the batches in the inbox of the place.
     pub fn can_work(&self, p: u8) -> bool
         requires place { p < self.now.cluster.places }
-        requires no_rebuild { is_rebuild self.now.cluster.coordinator.mode ≡ false }
         ensures { result ≡ can_work self.now.cluster.coordinator p (host self.now.cluster p) }
     {
         if is_over(self.coordinator.mode) {
@@ -36,6 +34,7 @@ impl<P: VertexProgram> Cluster<P> {
                 };
                 can_act(&self.hosts[usize::from(p)], p, &view)
             }
+            Turn::Rebuild => is_act(self.next_in_rebuild(p)),
         }
     }
 }
@@ -47,5 +46,15 @@ fn can_act<P: VertexProgram>(slot: &Option<Host<P>>, p: u8, view: &RoundView) ->
     match slot {
         None => false,
         Some(host) => host.can_act(p, view),
+    }
+}
+
+// Whether what comes next does something.
+fn is_act(step: Step) -> bool
+    ensures { result ≡ is_act (todo_of step) }
+{
+    match step {
+        Step::Wait(_, _) | Step::Rest => false,
+        _ => true,
     }
 }

@@ -30,7 +30,7 @@ impl<P: VertexProgram> Cluster<P> {
 }
 
 // The memory of a place is lost. It tells whether there was any.
-fn lose<P: VertexProgram>(hosts: &mut Vec<Option<Host<P>>>, p: u8) -> bool
+pub(crate) fn lose<P: VertexProgram>(hosts: &mut Vec<Option<Host<P>>>, p: u8) -> bool
     requires { p < length hosts.old.items }
     ensures hosts { hosts.new.items ≡ set hosts.old.items p None }
     ensures was_up { result ≡ is_some (get_or hosts.old.items p None) }

@@ -1,8 +1,6 @@
-ghost use Rattle.std.specs.Prelude.{◌≡◌, ◌<◌, ◌-◌, ◌^◌, ℕ, List, [], false, length, IsTrue, IsOk, IfOk, OnErr};
+ghost use Rattle.std.specs.Prelude.{◌≡◌, ◌<◌, ◌-◌, ◌^◌, ℕ, false, length, IsOk, IfOk, OnErr};
 ghost use Rattle.gr_sched.specs.declared.event.Event.TheVariants as kind;
-ghost use Rattle.gr_view.specs.Modes.{is_rebuild};
 ghost use Rattle.gr_cluster.specs.Step.{step};
-ghost use Rattle.gr_law_events.specs.Law.{drives};
 ghost use Rattle.gr_core.specs.Steps.{takes_memory};
 
 use crate::cluster::Cluster;
@@ -13,21 +11,19 @@ use gr_program::VertexProgram;
 use gr_sched::Event;
 
 impl<P: VertexProgram> Cluster<P> {
-    /// One event. After the end of the run nothing happens.
+    /// One event, in every mode. After the end of the run nothing happens.
     ///
-    /// A recovery may not name places yet for which a spare starts, and no work and no barrier may come while a recovery
-    /// or a repair is open.
+    /// It keeps the invariant of `Cluster`: before and after it the cluster agrees with some committed state.
     ///
-    /// A work costs what the computing of a stage, or of the body of one batch, costs; a delivery copies its batch; a
-    /// recovery reads the logs of the dead places.
+    /// A work costs what the computing of a stage, of the body of one batch, or of what is appended to a log costs. A
+    /// delivery copies its batch; a recovery reads the logs of the dead places; a barrier and a discard take time linear
+    /// in the places.
     ///
     /// # Errors
     ///
-    /// `OutOfMemory` where memory runs out, for the computing of a stage, a send, a delivery or a recovery alone; then all
-    /// is as it was.
+    /// `OutOfMemory` if memory runs out, only for the computing of a stage, a send, an append, a delivery or a recovery;
+    /// then all is as it was.
     pub fn step(&mut self, event: Event) -> Result<Outcome<P::Value, P::Acc>, OutOfMemory>
-        requires rebuild { IsTrue (is_rebuild self.old.cluster.coordinator.mode) → drives event ≡ false }
-        requires rebirth { (ps : List ℕ) → event ≡ kind.Recover ps → ps ≡ [] }
         requires worker { (p : ℕ) → event ≡ kind.Work p → p < self.old.cluster.places }
         requires crashed { (p n : ℕ) → event ≡ kind.Crash p n → p < self.old.cluster.places }
         requires flight { length self.old.cluster.flight < 2 ^ 32 - 1 }

@@ -26,7 +26,7 @@ ghost use Rattle.gr_core.specs.Works.{NeedsHold, MaySend, MayWork, cluster_of};
 
 use crate::cluster::Cluster;
 use crate::host::Host;
-use crate::turn::Turn;
+use crate::turn::{Turn, is_rebuild};
 use gr_base::{OutOfMemory, PlaceSet};
 use gr_batch::{Batch, Outcome, stage_of};
 use gr_flight::Flight;
@@ -37,11 +37,10 @@ use gr_view::Coordinator;
 use std::alloc::Global;
 
 impl<P: VertexProgram> Cluster<P> {
-    // What comes next at a place is done there, where no rebuild is open.
+    // What comes next at a place is done there.
     pub(crate) fn work(&mut self, p: u8) -> Result<Outcome<P::Value, P::Acc>, OutOfMemory>
         requires place { p < self.old.cluster.places }
         requires going { is_over self.old.cluster.coordinator.mode ≡ false }
-        requires no_rebuild { is_rebuild self.old.cluster.coordinator.mode ≡ false }
         requires flight { length self.old.cluster.flight < 2 ^ 32 - 1 }
         requires serial { self.old.cluster.serial < 2 ^ 64 - 1 }
         ensures ok { IfOk result (λ outcome. (self.new.cluster, outcome) ≡ step (P.program_of self.old.program) self.old.cluster (event.Work p)) }
@@ -54,6 +53,7 @@ impl<P: VertexProgram> Cluster<P> {
             Turn::Install => Ok(self.install_at(p)),
             Turn::Adopt => Ok(self.adopt_at(p)),
             Turn::Act => self.act_at(p),
+            Turn::Rebuild => self.rebuild_at(p),
         }
     }
 
@@ -69,7 +69,6 @@ impl<P: VertexProgram> Cluster<P> {
     // A place does nothing: its machine is down, or it waits for a recovery.
     fn rest_at(&self, p: u8) -> Outcome<P::Value, P::Acc>
         requires going { is_over self.now.cluster.coordinator.mode ≡ false }
-        requires no_rebuild { is_rebuild self.now.cluster.coordinator.mode ≡ false }
         requires turn { turn_of self.now.cluster.coordinator (host self.now.cluster p) ≡ turn.Rest }
         ensures { (self.now.cluster, result) ≡ step (P.program_of self.now.program) self.now.cluster (event.Work p) }
     {
@@ -82,7 +81,6 @@ impl<P: VertexProgram> Cluster<P> {
     fn install_at(&mut self, p: u8) -> Outcome<P::Value, P::Acc>
         requires place { p < self.old.cluster.places }
         requires going { is_over self.old.cluster.coordinator.mode ≡ false }
-        requires no_rebuild { is_rebuild self.old.cluster.coordinator.mode ≡ false }
         requires turn { turn_of self.old.cluster.coordinator (host self.old.cluster p) ≡ turn.Install }
         ensures step { (self.new.cluster, result) ≡ step (P.program_of self.old.program) self.old.cluster (event.Work p) }
         ensures program { self.new.program ≡ self.old.program }
@@ -94,12 +92,12 @@ impl<P: VertexProgram> Cluster<P> {
     fn adopt_at(&mut self, p: u8) -> Outcome<P::Value, P::Acc>
         requires place { p < self.old.cluster.places }
         requires going { is_over self.old.cluster.coordinator.mode ≡ false }
-        requires no_rebuild { is_rebuild self.old.cluster.coordinator.mode ≡ false }
         requires turn { turn_of self.old.cluster.coordinator (host self.old.cluster p) ≡ turn.Adopt }
         ensures step { (self.new.cluster, result) ≡ step (P.program_of self.old.program) self.old.cluster (event.Work p) }
         ensures program { self.new.program ≡ self.old.program }
     {
-        adopt(&mut self.hosts, p, self.coordinator.epoch);
+        let rebuild = is_rebuild(self.coordinator.mode);
+        adopt(&mut self.hosts, p, self.coordinator.epoch, rebuild);
         cut_tail(&mut self.logs, p);
         Outcome::Adopted(self.coordinator.epoch)
     }
@@ -108,7 +106,6 @@ impl<P: VertexProgram> Cluster<P> {
     fn act_at(&mut self, p: u8) -> Result<Outcome<P::Value, P::Acc>, OutOfMemory>
         requires place { p < self.old.cluster.places }
         requires going { is_over self.old.cluster.coordinator.mode ≡ false }
-        requires no_rebuild { is_rebuild self.old.cluster.coordinator.mode ≡ false }
         requires turn { turn_of self.old.cluster.coordinator (host self.old.cluster p) ≡ turn.Act }
         requires flight { length self.old.cluster.flight < 2 ^ 32 - 1 }
         requires serial { self.old.cluster.serial < 2 ^ 64 - 1 }
@@ -147,34 +144,20 @@ fn install<P: VertexProgram>(hosts: &mut Vec<Option<Host<P>>>, p: u8) -> u64
     ensures hosts { hosts.new.items ≡ set hosts.old.items p (option_map installed_host (get_or hosts.old.items p None)) }
     ensures count { (h : Held P.Value P.Acc) → get_or hosts.old.items p None ≡ Some h → result ≡ h.installed + 1 }
 {
-    install_slot(&mut hosts[usize::from(p)])
-}
-
-fn install_slot<P: VertexProgram>(slot: &mut Option<Host<P>>) -> u64
-    requires { IfSome slot.old (λ h. h.installed < 2 ^ 64 - 1) }
-    ensures host { slot.new ≡ option_map installed_host slot.old }
-    ensures count { (h : Held P.Value P.Acc) → slot.old ≡ Some h → result ≡ h.installed + 1 }
-{
-    match slot {
+    match &mut hosts[usize::from(p)] {
         None => 0,
         Some(host) => host.install(),
     }
 }
 
-// A place adopts a new epoch, in which no rebuild is open.
-fn adopt<P: VertexProgram>(hosts: &mut Vec<Option<Host<P>>>, p: u8, epoch: u64)
+// A place adopts a new epoch, in which a rebuild is open or none.
+fn adopt<P: VertexProgram>(hosts: &mut Vec<Option<Host<P>>>, p: u8, epoch: u64, rebuild: bool)
     requires { p < length hosts.old.items }
-    ensures { (m : Mode) → is_rebuild m ≡ false → hosts.new.items ≡ set hosts.old.items p (option_map (adopted_host epoch m) (get_or hosts.old.items p None)) }
+    ensures { (m : Mode) → is_rebuild m ≡ rebuild → hosts.new.items ≡ set hosts.old.items p (option_map (adopted_host epoch m) (get_or hosts.old.items p None)) }
 {
-    adopt_slot(&mut hosts[usize::from(p)], epoch);
-}
-
-fn adopt_slot<P: VertexProgram>(slot: &mut Option<Host<P>>, epoch: u64)
-    ensures { (m : Mode) → is_rebuild m ≡ false → slot.new ≡ option_map (adopted_host epoch m) slot.old }
-{
-    match slot {
+    match &mut hosts[usize::from(p)] {
         None => {}
-        Some(host) => host.adopt(epoch),
+        Some(host) => host.adopt(epoch, rebuild),
     }
 }
 
@@ -232,7 +215,7 @@ fn act_in_round<P: VertexProgram>(
 }
 
 // The batch of the computed stage goes into the flight, and the line of its sender says so.
-fn send<P: VertexProgram>(
+pub(crate) fn send<P: VertexProgram>(
     hosts: &mut Vec<Option<Host<P>>>,
     flight: &mut Flight<P::Value, P::Acc>,
     serial: &mut u64,
@@ -280,29 +263,13 @@ fn act<P: VertexProgram>(
     program: &P,
 ) -> Result<Act<P::Value, P::Acc>, OutOfMemory>
     requires place { p < length hosts.old.items }
-    requires needs { (h : Held P.Value P.Acc) → get_or hosts.old.items p None ≡ Some h → NeedsHold (P.program_of program.now) p view.now h }
+    requires needs { IfSome (get_or hosts.old.items p None) (λ h. NeedsHold (P.program_of program.now) p view.now h) }
     ensures answer { (h : Held P.Value P.Acc) → get_or hosts.old.items p None ≡ Some h → IfOk result (λ act. act ≡ answer_of (P.program_of program.now) p view.now h (next_of p view.now h)) }
     ensures hosts { (h : Held P.Value P.Acc) → get_or hosts.old.items p None ≡ Some h → OnOk result (hosts.new.items ≡ set hosts.old.items p (Some (acted_host (P.program_of program.now) p view.now h (next_of p view.now h)))) }
     ensures told { (h : Held P.Value P.Acc) → get_or hosts.old.items p None ≡ Some h → IsTrue (is_told (next_of p view.now h)) → IsOk result }
     ensures err { OnErr result (hosts.new.items ≡ hosts.old.items) }
 {
-    act_slot(alloc, &mut hosts[usize::from(p)], p, view, program)
-}
-
-fn act_slot<P: VertexProgram>(
-    alloc: Global,
-    slot: &mut Option<Host<P>>,
-    p: u8,
-    view: &RoundView,
-    program: &P,
-) -> Result<Act<P::Value, P::Acc>, OutOfMemory>
-    requires { (h : Held P.Value P.Acc) → slot.old ≡ Some h → NeedsHold (P.program_of program.now) p view.now h }
-    ensures answer { (h : Held P.Value P.Acc) → slot.old ≡ Some h → IfOk result (λ act. act ≡ answer_of (P.program_of program.now) p view.now h (next_of p view.now h)) }
-    ensures host { (h : Held P.Value P.Acc) → slot.old ≡ Some h → OnOk result (slot.new ≡ Some (acted_host (P.program_of program.now) p view.now h (next_of p view.now h))) }
-    ensures told { (h : Held P.Value P.Acc) → slot.old ≡ Some h → IsTrue (is_told (next_of p view.now h)) → IsOk result }
-    ensures err { OnErr result (slot.new ≡ slot.old) }
-{
-    match slot {
+    match &mut hosts[usize::from(p)] {
         None => Ok(Act::Rest),
         Some(host) => host.act(alloc, p, view, program),
     }

@@ -1,16 +1,17 @@
 use Rattle.std.proofs.Common.{◌≡◌, ◌∙◌, ◌<◌, ℕ, List, length, None, Some, get_or, ap, sym, subst, arith, false, inl, inr}
 use Rattle.std.proofs.lemmas.List.{get_or_default}
-use Rattle.gr_view.specs.Modes.{is_over, is_rebuild}
+use Rattle.gr_view.specs.Modes.{is_over}
 use Rattle.gr_view.specs.Decisions.{parties}
 use Rattle.gr_rules.specs.Todo.{is_act}
 use Rattle.gr_round.specs.declared.view.RoundView.{RoundView}
+use Rattle.gr_round.specs.Todo.{todo_of}
 use Rattle.gr_cluster.specs.Tables.{Host, Cluster, host}
 use Rattle.gr_cluster.specs.Todo.{can_work}
 use Rattle.gr_core.specs.Tables.{Agrees}
 use Rattle.gr_core.specs.declared.turn.Turn.TheVariants as turn
 use Rattle.gr_core.specs.Steps.{next_of}
 use Rattle.gr_core.specs.Turns.{turn_of}
-use Rattle.gr_core.proofs.CanWork.{can_work-over, can_work-rest, can_work-install, can_work-adopt, can_work-act}
+use Rattle.gr_core.proofs.CanWork.{can_work-over, can_work-rest, can_work-install, can_work-adopt, can_work-act, can_work-rebuild}
 use Rattle.gr_core.proofs.cluster.Cluster.can_work.Goals as goal
 
 pub returns-then-is_over : goal.returns-then-is_over
@@ -25,7 +26,7 @@ returns-in-Rest g c =
     let laws = g.met.P.VertexProgram.laws c.args.self.now.program in
     let U = subst (λ x. Agrees (g.P.VertexProgram.program_of x.program) x.cluster) c.self.view_is c.self.invariant in
     let over = ap (λ x. is_over x.cluster.coordinator.mode) (sym c.self.view_is) ∙ sym c.is_over.ensures ∙ c.if-is_over.false in
-    sym (can_work-rest P c.args.self.now.cluster c.args.p laws U over c.requires.no_rebuild (sym c.turn_at.ensures ∙ c.in-Rest.is))
+    sym (can_work-rest P c.args.self.now.cluster c.args.p laws U over (sym c.turn_at.ensures ∙ c.in-Rest.is))
 
 pub returns-in-Install : goal.returns-in-Install
 returns-in-Install g c =
@@ -34,8 +35,8 @@ returns-in-Install g c =
     let U = subst (λ x. Agrees (g.P.VertexProgram.program_of x.program) x.cluster) c.self.view_is c.self.invariant in
     let over = ap (λ x. is_over x.cluster.coordinator.mode) (sym c.self.view_is) ∙ sym c.is_over.ensures ∙ c.if-is_over.false in
     elim c.in-Install.is [
-      | inl e ↦ sym (can_work-install P c.args.self.now.cluster c.args.p laws U over c.requires.no_rebuild (sym c.turn_at.ensures ∙ e))
-      | inr e ↦ sym (can_work-adopt P c.args.self.now.cluster c.args.p laws U over c.requires.no_rebuild (sym c.turn_at.ensures ∙ e))
+      | inl e ↦ sym (can_work-install P c.args.self.now.cluster c.args.p laws U over (sym c.turn_at.ensures ∙ e))
+      | inr e ↦ sym (can_work-adopt P c.args.self.now.cluster c.args.p laws U over (sym c.turn_at.ensures ∙ e))
     ]
 
 pub returns-in-Act : goal.returns-in-Act
@@ -56,4 +57,12 @@ returns-in-Act g c =
     let acts : (h : Host g.row.P-Value.Denot g.row.P-Acc.Denot) → host k p ≡ Some h → b ≡ is_act (next_of p (view (parties k.coordinator)) h)
     = λ h at. subst (λ ps. b ≡ is_act (next_of p (view ps) h)) c.parties.ensures (c.can_act.ensures h (slot_is ∙ at)) in
     subst (λ x. b ≡ can_work x.cluster.coordinator p (host x.cluster p)) c.self.view_is
-    (can_work-act P k p (g.met.P.VertexProgram.laws s.program) c.self.invariant over (ap (λ x. is_rebuild x.cluster.coordinator.mode) c.self.view_is ∙ c.requires.no_rebuild) k.serial k.theta b next acts)
+    (can_work-act P k p (g.met.P.VertexProgram.laws s.program) c.self.invariant over k.serial k.theta b next acts)
+
+pub returns-in-Rebuild : goal.returns-in-Rebuild
+returns-in-Rebuild g c =
+    let P = g.P.VertexProgram.program_of c.args.self.now.program in
+    let laws = g.met.P.VertexProgram.laws c.args.self.now.program in
+    let U = subst (λ x. Agrees (g.P.VertexProgram.program_of x.program) x.cluster) c.self.view_is c.self.invariant in
+    let over = ap (λ x. is_over x.cluster.coordinator.mode) (sym c.self.view_is) ∙ sym c.is_over.ensures ∙ c.if-is_over.false in
+    c.is_act.ensures ∙ can_work-rebuild P c.args.self.now.cluster c.args.p laws U over (todo_of c.next_in_rebuild.result) c.next_in_rebuild.ensures.next

@@ -1,10 +1,10 @@
-use Rattle.std.proofs.Common.{◌≡◌, ◌∙◌, ap, false, refl}
+use Rattle.std.proofs.Common.{◌≡◌, ◌∙◌, ap, false}
 use Rattle.gr_sched.specs.declared.event.Event.TheVariants as event
 use Rattle.gr_view.specs.Modes.{is_over}
 use Rattle.gr_cluster.specs.Tables.{Cluster}
 use Rattle.gr_cluster.specs.Step.{step}
 use Rattle.gr_core.proofs.Network.{IfOk-delivered, OnErr-kept, flight-fresh}
-use Rattle.gr_core.proofs.Kept.{keeps-besides, keeps-stepped}
+use Rattle.gr_core.proofs.Kept.{keeps, keeps-stepped}
 use Rattle.gr_core.proofs.cluster.Cluster.deliver.Goals as goal
 
 pub deliver_from-requires : goal.deliver_from-requires
@@ -27,7 +27,7 @@ invariant_of-self g c =
     keeps-stepped P k (record k { hosts = hs; flight = fl }) (step P k (event.Deliver c.args.i)) r
     (IfOk-delivered P k c.args.i r hs fl over c.deliver_from.ensures.ok)
     (OnErr-kept P k c.args.i r hs fl c.deliver_from.ensures.hosts_kept c.deliver_from.ensures.flight_kept)
-    c.self.invariant (keeps-besides P (g.met.P.VertexProgram.laws s.program) k c.self.invariant (event.Deliver c.args.i) tt tt refl)
+    c.self.invariant (keeps P (g.met.P.VertexProgram.laws s.program) k c.self.invariant (event.Deliver c.args.i) tt)
 
 pub returns-clause-ok : goal.returns-clause-ok
 returns-clause-ok g c =

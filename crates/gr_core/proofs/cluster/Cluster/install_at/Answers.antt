@@ -1,12 +1,12 @@
 use Rattle.std.proofs.Common.{◌≡◌, ◌∙◌, sym, ap, subst, false}
 use Rattle.gr_sched.specs.declared.event.Event.TheVariants as event
-use Rattle.gr_view.specs.Modes.{is_over, is_rebuild}
+use Rattle.gr_view.specs.Modes.{is_over}
 use Rattle.gr_cluster.specs.Tables.{Cluster, host}
 use Rattle.gr_core.specs.Tables.{Agrees}
 use Rattle.gr_core.specs.declared.turn.Turn.TheVariants as turn
 use Rattle.gr_core.specs.Turns.{turn_of}
 use Rattle.gr_core.proofs.Turns.{install-step}
-use Rattle.gr_core.proofs.Kept.{keeps-outside}
+use Rattle.gr_core.proofs.Kept.{keeps}
 use Rattle.gr_core.proofs.cluster.Cluster.install_at.Goals as goal
 
 pub invariant_of-self : goal.invariant_of-self
@@ -15,10 +15,9 @@ invariant_of-self g c =
     let P = g.P.VertexProgram.program_of s.program in
     let k : Cluster g.row.P-Value.Denot g.row.P-Acc.Denot = record { hosts = s.hosts.items; logs = s.logs.items; flight = s.flight; serial = s.serial; coordinator = s.coordinator; places = s.places; losses = s.losses; theta = s.theta } in
     let over : is_over k.coordinator.mode ≡ false = ap (λ x. is_over x.cluster.coordinator.mode) c.self.view_is ∙ c.requires.going in
-    let none : is_rebuild k.coordinator.mode ≡ false = ap (λ x. is_rebuild x.cluster.coordinator.mode) c.self.view_is ∙ c.requires.no_rebuild in
     let next : turn_of k.coordinator (host k c.args.p) ≡ turn.Install = ap (λ x. turn_of x.cluster.coordinator (host x.cluster c.args.p)) c.self.view_is ∙ c.requires.turn in
     let is = install-step P k c.args.p over c.install.new.hosts.items c.install.result next c.install.ensures.hosts c.install.ensures.count in
-    subst (λ x. Agrees P x.0) (sym is) (keeps-outside P (g.met.P.VertexProgram.laws s.program) k c.self.invariant (event.Work c.args.p) tt tt none)
+    subst (λ x. Agrees P x.0) (sym is) (keeps P (g.met.P.VertexProgram.laws s.program) k c.self.invariant (event.Work c.args.p) tt)
 
 pub returns-clause-step : goal.returns-clause-step
 returns-clause-step g c =

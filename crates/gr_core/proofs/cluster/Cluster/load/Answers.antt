@@ -1,8 +1,7 @@
-use Rattle.std.proofs.Common.{◌≡◌, ◌∙◌, ◌<◌, ◌^◌, length, nat_lt, ap, sym, subst, arith}
+use Rattle.std.proofs.Common.{◌≡◌, ◌∙◌, length, nat_lt, ap, sym, subst, arith}
 use Rattle.std.proofs.lemmas.List.{length-map}
 use Rattle.gr_edges.specs.Vertices.{id_of, ids}
 use Rattle.gr_view.specs.Decisions.{first_coordinator}
-use Rattle.gr_cluster.specs.Load.{load}
 use Rattle.gr_law_runs.specs.Undisturbed.{RunsUndisturbed}
 use Rattle.gr_core.specs.Tables.{Agrees}
 use Rattle.gr_core.specs.Loaded.{setting_of}
@@ -30,7 +29,7 @@ invariant_of-result g c =
       places = s.places;
       losses = s.losses;
       theta = s.theta;
-    }) ∙ load-is P s es vs)) (record { state = U.0; holds = U.1.agrees; none_reborn = ap (λ t. t.coordinator.reborn) (sym (load-is P s es vs)) })
+    }) ∙ load-is P s es vs)) (record { state = U.0; holds = U.1.agrees })
 
 pub returns-clause-cluster : goal.returns-clause-cluster
 returns-clause-cluster g c =

@@ -1,9 +1,9 @@
-use Rattle.std.proofs.Common.{◌≡◌, ◌∙◌, false, refl, sym, ap, subst}
+use Rattle.std.proofs.Common.{◌≡◌, ◌∙◌, false, sym, ap, subst}
 use Rattle.gr_sched.specs.declared.event.Event.TheVariants as event
 use Rattle.gr_view.specs.Modes.{is_over}
 use Rattle.gr_cluster.specs.Tables.{Cluster}
 use Rattle.gr_core.specs.Tables.{Agrees}
-use Rattle.gr_core.proofs.Kept.{keeps-besides}
+use Rattle.gr_core.proofs.Kept.{keeps}
 use Rattle.gr_core.proofs.Orders.{repair-step}
 use Rattle.gr_core.proofs.cluster.Cluster.repair.Goals as goal
 
@@ -14,7 +14,7 @@ invariant_of-self g c =
     let k : Cluster g.row.P-Value.Denot g.row.P-Acc.Denot = record { hosts = s.hosts.items; logs = s.logs.items; flight = s.flight; serial = s.serial; coordinator = s.coordinator; places = s.places; losses = s.losses; theta = s.theta } in
     let over : is_over k.coordinator.mode ≡ false = ap (λ x. is_over x.cluster.coordinator.mode) c.self.view_is ∙ c.requires.going in
     let is = repair-step P k over (c.open_repair.new.self, c.open_repair.result) c.open_repair.ensures.decision in
-    subst (λ x. Agrees P x.0) (sym is) (keeps-besides P (g.met.P.VertexProgram.laws s.program) k c.self.invariant event.Repair tt tt refl)
+    subst (λ x. Agrees P x.0) (sym is) (keeps P (g.met.P.VertexProgram.laws s.program) k c.self.invariant event.Repair tt)
 
 pub returns-clause-step : goal.returns-clause-step
 returns-clause-step g c =

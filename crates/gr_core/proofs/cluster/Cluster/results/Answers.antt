@@ -1,10 +1,11 @@
-use Rattle.std.proofs.Common.{◌≡◌, ◌∙◌, ◌<◌, length, None, get_or, ap, sym, arith}
+use Rattle.std.proofs.Common.{◌≡◌, ◌∙◌, ◌<◌, length, None, get_or, ap, sym, subst, arith}
 use Rattle.std.proofs.lemmas.List.{get_or_default}
+use Rattle.gr_base.specs.Rising.{RisesBy}
 use Rattle.gr_log.specs.Directory.{with_items}
 use Rattle.gr_cluster.specs.Tables.{host, effective}
 use Rattle.gr_cluster.specs.Ending.{values_at, results_of}
 use Rattle.gr_core.specs.Values.{vertex_in, mastered_in}
-use Rattle.gr_core.proofs.Results.{merged_below, merged-more, values-up, values-down}
+use Rattle.gr_core.proofs.Results.{merged_below, merged-more, merged-rises, values-up, values-down}
 use Rattle.gr_core.proofs.cluster.Cluster.results.Goals as goal
 use Rattle.gr_core.proofs.cluster.Cluster.results.Goals.{in-Some+in_ok-news+in_ok-values, in_default}
 
@@ -23,13 +24,18 @@ loop-p-preserved g c =
           let h = w.in-Some.host in
           let news : w.in_ok-news.news ≡ values_at t p =
           w.in_ok-news.ensures.values ∙ ap (λ n. mastered_in p (effective n h)) commits ∙ sym (values-up t p h (sym slot_is ∙ w.in-Some.is)) in
-          w.values-is ∙ w.in_ok-values.ensures
+          w.values-is ∙ w.in_ok-values.ensures.items
           ∙ (λ k. with_items vertex_in (w.as_slice-in-Some.ensures k) (w.as_slice.ensures k))
           ∙ (λ k. with_items vertex_in (news k) (c.loop-p.invariant k)) ∙ sym (merged-more t p)
       | in_default w ↦
           w.values-is ∙ c.loop-p.invariant
           ∙ sym (merged-more t p ∙ ap (λ l. with_items vertex_in l (merged_below t p)) (values-down t p (sym slot_is ∙ w.in_default.is)))
     ]
+
+pub merge-requires-clause-earlier_rise : goal.merge-requires-clause-earlier_rise
+merge-requires-clause-earlier_rise g c =
+    let t = c.args.self.now.cluster in
+    subst (RisesBy vertex_in) (sym (c.as_slice.ensures ∙ c.loop-p.invariant)) (merged-rises t c.loop-p.p)
 
 pub returns : goal.returns
 unfolding results_of

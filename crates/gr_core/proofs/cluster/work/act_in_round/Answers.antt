@@ -1,12 +1,12 @@
 use Rattle.std.proofs.Common.{◌<◌, arith, sym, subst, [], get_or, length, None}
 use Rattle.gr_round.specs.declared.act.Act.TheVariants as act
 use Rattle.gr_core.specs.Works.{cluster_of}
-use Rattle.gr_core.proofs.Acting.{up-is, OnErr-then, needs-here, answer-seen, hosts-seen, report-fits, line-fits, sent-ok, sent-same, done-computed, done-waiting, done-rest, done-ready}
+use Rattle.gr_core.proofs.Acting.{IfSome-each, up-is, OnErr-then, needs-here, answer-seen, hosts-seen, report-fits, line-fits, sent-ok, sent-same, done-computed, done-waiting, done-rest, done-ready}
 use Rattle.gr_core.proofs.cluster.work.act_in_round.Goals as goal
 
 pub act-requires-clause-needs : goal.act-requires-clause-needs
-act-requires-clause-needs g c = λ h at.
-    needs-here (g.P.VertexProgram.program_of c.args.program.now) c.args.coordinator.now c.args.p h c.args.serial.now c.args.theta c.parties.result c.parties.ensures (c.requires.may h at)
+act-requires-clause-needs g c = IfSome-each (get_or c.args.hosts.now.items c.args.p None) (λ h at.
+    needs-here (g.P.VertexProgram.program_of c.args.program.now) c.args.coordinator.now c.args.p h c.args.serial.now c.args.theta c.parties.result c.parties.ensures (c.requires.may h at))
 
 pub send-requires-clause-place : goal.send-requires-clause-place
 send-requires-clause-place g c =

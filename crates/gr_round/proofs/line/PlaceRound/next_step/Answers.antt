@@ -1,8 +1,8 @@
-use Rattle.std.proofs.Common.{◌≡◌, ◌∙◌, ℕ, List, not, false, sym, ap, subst}
+use Rattle.std.proofs.Common.{◌≡◌, ◌∙◌, ℕ, List, not, sym, ap, subst}
 use Rattle.std.specs.Prelude.{◌↔◌, IsTrue}
 use Rattle.gr_batch.specs.declared.batch.Batch.{Batch}
 use Rattle.gr_base.specs.Places.{without_place}
-use Rattle.gr_rules.specs.Exchange.{Exchange, needed, unsent}
+use Rattle.gr_rules.specs.Exchange.{Exchange, unsent}
 use Rattle.gr_rules.specs.Todo.{Todo, compute_or_wait, send_or_rest}
 use Rattle.gr_round.specs.declared.view.RoundView.{RoundView}
 use Rattle.gr_round.specs.declared.line.PlaceRound.TheInside.{Inside}
@@ -23,7 +23,7 @@ pub returns-then-not-self-clause-next : goal.returns-then-not-self-clause-next
 returns-then-not-self-clause-next g c =
     let w = c.args.view.now in
     let x : Exchange = record { stage = c.self.inside.stage; computed = c.self.inside.computed; sent = c.self.inside.sent } in
-    c.compute_or_wait.ensures.next ∙ ap (λ ps. compute_or_wait c.args.inbox.now w.epoch ps (needed false c.self.inside.stage)) c.others_of-others.ensures
+    c.compute_or_wait.ensures.next ∙ (λ j. compute_or_wait c.args.inbox.now w.epoch (c.others_of-others.ensures j) (c.needed.ensures j))
     ∙ sym (todo-computes c.args.inbox.now w.epoch (without_place w.parties c.args.me) x c.self.inside.reported (ap not c.if-not-self.true))
     ∙ ap (next_at c.args.me w c.args.inbox.now) c.self.view_is
 

@@ -1,0 +1,197 @@
+-- What a place does in a rebuild is what the step of the cluster makes of it.
+use Rattle.std.proofs.Common.{◌≡◌, ℕ, ◌+◌, ◌<◌, List, [], ◌∷◌, ◌++◌, true, false, sym, ap, ◌∙◌, subst, arith, Option, Some, None, get_or, set, length, Result, Ok, Err, ltb-false}
+use Rattle.std.specs.Prelude.{IsTrue, IfSome, is_some, IfOk, OnOk, OnErr}
+use Rattle.gr_base.specs.Places.{without_place}
+use Rattle.gr_program.specs.Program.{Program}
+use Rattle.gr_log.specs.Bytes.{size_of}
+use Rattle.gr_log.specs.Log.{Log, with_records}
+use Rattle.gr_batch.specs.declared.stage.Stage.{Stage}
+use Rattle.gr_batch.specs.declared.body.Body.{Body}
+use Rattle.gr_batch.specs.declared.batch.Batch.{Batch}
+use Rattle.gr_batch.specs.declared.outcome.Outcome.{Outcome}
+use Rattle.gr_batch.specs.declared.outcome.Outcome.TheVariants as outcome
+use Rattle.gr_batch.specs.Bodies.{stage_of_body}
+use Rattle.gr_batch.specs.Stages.{is_end}
+use Rattle.gr_sched.specs.declared.event.Event.TheVariants as event
+use Rattle.gr_view.specs.declared.coordinator.Coordinator.{Coordinator}
+use Rattle.gr_view.specs.Decisions.{parties, reported}
+use Rattle.gr_rules.specs.Exchange.{unsent}
+use Rattle.gr_rules.specs.Taken.{log_at}
+use Rattle.gr_rules.specs.Todo.{Todo}
+use Rattle.gr_rules.specs.AtPlace.{due_count}
+use Rattle.gr_round.specs.Todo.{todo_in_rebuild}
+use Rattle.gr_rebuild.specs.Ending.{IsAllCommitted}
+use Rattle.gr_rebuild.specs.declared.place.PlaceInRebuild.{PlaceInRebuild}
+use Rattle.gr_cluster.specs.Tables.{Host, Cluster, host}
+use Rattle.gr_cluster.specs.Todo.{others}
+use Rattle.gr_cluster.specs.Work.{exchange_of, computed_host, sent_host, worked}
+use Rattle.gr_cluster.specs.Step.{step}
+use Rattle.gr_law_rebuild.proofs.InEpoch.{at-epoch, is-now}
+use Rattle.gr_law_relies.specs.AtPlace.{place_in, rows_after, arcs_after, body_after, appended_by, ReadyToRebuild}
+use Rattle.gr_law_relies.specs.Law.{MayRebuild, MayReport}
+use Rattle.gr_law_relies.proofs.AtPlace.{ready, computed-work, sent-work, appended-work, reported-work}
+use Rattle.gr_law_relies.proofs.Line.{not-over}
+use Rattle.gr_law_relies.proofs.Next.{computes-fresh, sends-to, reports-end}
+use Rattle.gr_law_relies.proofs.Rebuild.{may-rebuild}
+use Rattle.gr_core.specs.declared.turn.Turn.TheVariants as turn
+use Rattle.gr_core.specs.Rebuilds.{HasToDo}
+use Rattle.gr_core.specs.Steps.{takes_memory}
+use Rattle.gr_core.specs.Tables.{Agrees}
+use Rattle.gr_core.specs.Turns.{turn_of}
+use Rattle.gr_core.specs.Works.{MaySend}
+use Rattle.gr_core.proofs.Turns.{turn-rebuild, work-step}
+
+module _ {V A : Type 0} (P : Program V A) (c : Cluster V A) (p : ℕ) where
+  step-is : (x : Todo) (N : HasToDo c p x) → worked P c p N.at x ≡ step P c (event.Work p)
+  step-is x N = sym (work-step P c p (not-over c.coordinator.mode N.rebuilding) N.at x N.is N.next)
+
+  -- a place that waits or rests changes nothing
+  pub waiting-step : (s : Stage) (q : ℕ) → HasToDo c p (Todo.Wait s q) → (c, outcome.Waiting s q) ≡ step P c (event.Work p)
+  unfolding worked
+  waiting-step s q N = step-is (Todo.Wait s q) N
+
+  pub resting-step : HasToDo c p Todo.Rest → (c, outcome.Idle) ≡ step P c (event.Work p)
+  unfolding worked
+  resting-step N = step-is Todo.Rest N
+
+  -- what computes, sends or appends takes memory
+  pub computing-takes : HasToDo c p Todo.Compute → takes_memory (event.Work p) (step P c (event.Work p)).1 ≡ true
+  unfolding worked
+  computing-takes N = sym (ap (λ (x : Cluster V A × Outcome V A). takes_memory (event.Work p) x.1) (step-is Todo.Compute N))
+
+  pub sending-takes : (q : ℕ) → HasToDo c p (Todo.Send q) → takes_memory (event.Work p) (step P c (event.Work p)).1 ≡ true
+  unfolding worked
+  sending-takes q N = sym (ap (λ (x : Cluster V A × Outcome V A). takes_memory (event.Work p) x.1) (step-is (Todo.Send q) N))
+
+  pub appending-takes : HasToDo c p Todo.Append → takes_memory (event.Work p) (step P c (event.Work p)).1 ≡ true
+  unfolding worked
+  appending-takes N = sym (ap (λ (x : Cluster V A × Outcome V A). takes_memory (event.Work p) x.1) (step-is Todo.Append N))
+
+module _ {V A : Type 0} (P : Program V A) (c : Cluster V A) (K : Agrees P c) (p : ℕ) where
+  -- what is next at the place, where its turn is a rebuild
+  pub has-to-do : turn_of c.coordinator (host c p) ≡ turn.Rebuild → (x : Todo)
+      → ((h : Host V A) → host c p ≡ Some h → x ≡ todo_in_rebuild h.inbox h.epoch (others c.coordinator p) (exchange_of h) h.appended h.reported) → HasToDo c p x
+  has-to-do is x next =
+      let T = turn-rebuild c.coordinator (host c p) is in
+      let W = T.0 in
+      let rebuilding = T.1 in
+      let le = ltb-false W.at.installed c.coordinator.commits W.installed in
+      let le' = ltb-false W.at.epoch c.coordinator.epoch W.adopted in
+      let now = is-now P K.state c K.holds rebuilding p W.at W.is le le' in
+      let installed = (at-epoch P K.state c K.holds rebuilding p W.at W.is le le').installed in
+      let M = may-rebuild P K.state c p W.at K.holds rebuilding W.is installed now in
+      record { rebuilding = rebuilding; at = W.at; is = W.is; installed = installed; now = now; next = M.next ∙ sym (next W.at W.is) }
+
+  module _ (x : Todo) (N : HasToDo c p x) where
+    pub may : MayRebuild P c p N.at
+    may = may-rebuild P K.state c p N.at K.holds N.rebuilding N.is N.installed N.now
+
+    module _ (w : PlaceInRebuild) (place_is : w ≡ place_in P c p) where
+      at-place : get_or c.hosts w.place None ≡ Some N.at
+      at-place = ap (λ (v : PlaceInRebuild). get_or c.hosts v.place None) place_is ∙ N.is
+
+      pub place-within : w.place < length c.hosts
+      place-within =
+          let e : w.place ≡ p = ap (λ (v : PlaceInRebuild). v.place) place_is in
+          let M = may.place in
+          let many : length c.hosts ≡ c.places = K.holds.committed.shaped.hosts in
+          omega (arith, e, M, many)
+
+      pub log-within : w.place < length c.logs
+      log-within =
+          let e : w.place ≡ p = ap (λ (v : PlaceInRebuild). v.place) place_is in
+          let M = may.place in
+          let many : length c.logs ≡ c.places = K.holds.committed.shaped.logs in
+          omega (arith, e, M, many)
+
+      pub ready-at : (logs : List Log) → logs ≡ c.logs → ReadyToRebuild w logs N.at
+      ready-at logs same = subst (λ (v : PlaceInRebuild). ReadyToRebuild v logs N.at) (sym place_is)
+          (subst (λ ls. ReadyToRebuild (place_in P c p) ls N.at) (sym same) (ready P c p N.at N.now may))
+
+      pub ready-here : (logs : List Log) → logs ≡ c.logs → IfSome (get_or c.hosts w.place None) (λ h. ReadyToRebuild w logs h)
+      ready-here logs same = subst (λ o. IfSome o (λ h. ReadyToRebuild w logs h)) (sym at-place) (ready-at logs same)
+
+module _ {V A : Type 0} (P : Program V A) (c : Cluster V A) (K : Agrees P c) (p : ℕ) where
+  -- a stage is computed
+  module _ (N : HasToDo c p Todo.Compute) (w : PlaceInRebuild) (place_is : w ≡ place_in P c p) where
+    pub fresh-here : IfSome (get_or c.hosts w.place None) (λ h. h.computed ≡ false)
+    fresh-here = subst (λ o. IfSome o (λ h. h.computed ≡ false)) (sym (at-place P c K p Todo.Compute N w place_is)) (computes-fresh c.coordinator p N.at N.rebuilding N.next)
+
+    pub computed-step : (logs : List Log) → logs ≡ c.logs → (hs : List (Option (Host V A))) (s : Stage)
+        → ((h : Host V A) → get_or c.hosts w.place None ≡ Some h → s ≡ h.stage)
+        → ((h : Host V A) → get_or c.hosts w.place None ≡ Some h → hs ≡ set c.hosts w.place (Some (computed_host w.others (rows_after w logs h h.stage) (arcs_after w logs h h.stage) h)))
+        → (record c { hosts = hs }, outcome.Computed s) ≡ step P c (event.Work p)
+    computed-step logs same hs s stage hosts =
+        let h = N.at in
+        let at = at-place P c K p Todo.Compute N w place_is in
+        let is : hs ≡ set c.hosts p (Some (computed_host (others c.coordinator p) (rows_after (place_in P c p) c.logs h h.stage) (arcs_after (place_in P c p) c.logs h h.stage) h))
+        = hosts h at ∙ (λ j. set c.hosts (place_is j).place (Some (computed_host (place_is j).others (rows_after (place_is j) (same j) h h.stage) (arcs_after (place_is j) (same j) h h.stage) h))) in
+        computed-work P c p h N.now N.rebuilding hs s (stage h at) is ∙ step-is P c p Todo.Compute N
+
+  -- it appends to its log
+  module _ (N : HasToDo c p Todo.Append) (w : PlaceInRebuild) (place_is : w ≡ place_in P c p) where
+    pub committed-here : IsAllCommitted (log_at c.logs w.place)
+    committed-here = subst (λ (v : PlaceInRebuild). IsAllCommitted (log_at c.logs v.place)) (sym place_is) ((may P c K p Todo.Append N).append N.next)
+
+    pub appended-step : (hs : List (Option (Host V A))) (ls : List Log) (n : ℕ)
+        → ((h : Host V A) → get_or c.hosts w.place None ≡ Some h → n ≡ size_of (appended_by w c.logs h))
+        → ((h : Host V A) → get_or c.hosts w.place None ≡ Some h → ls ≡ set c.logs w.place (with_records (appended_by w c.logs h) (log_at c.logs w.place)))
+        → ((h : Host V A) → get_or c.hosts w.place None ≡ Some h → hs ≡ set c.hosts w.place (Some (record h { appended = true })))
+        → (record c { hosts = hs; logs = ls }, outcome.Appended n) ≡ step P c (event.Work p)
+    appended-step hs ls n bytes logs hosts =
+        let h = N.at in
+        let at = at-place P c K p Todo.Append N w place_is in
+        let bytes' : n ≡ size_of (appended_by (place_in P c p) c.logs h) = bytes h at ∙ (λ j. size_of (appended_by (place_is j) c.logs h)) in
+        let hosts' : hs ≡ set c.hosts p (Some (record h { appended = true })) = hosts h at ∙ (λ j. set c.hosts (place_is j).place (Some (record h { appended = true }))) in
+        let logs' : ls ≡ set c.logs p (with_records (appended_by (place_in P c p) c.logs h) (log_at c.logs p))
+        = logs h at ∙ (λ j. set c.logs (place_is j).place (with_records (appended_by (place_is j) c.logs h) (log_at c.logs (place_is j).place))) in
+        appended-work P c p h N.now hs ls n bytes' hosts' logs' ∙ step-is P c p Todo.Append N
+
+  -- it reports
+  module _ (N : HasToDo c p Todo.Report) where
+    pub computed-here : IfSome (get_or c.hosts p None) (λ h. IsTrue h.computed)
+    computed-here = subst (λ o. IfSome o (λ h. IsTrue h.computed)) (sym N.is) (reports-end c.coordinator p N.at N.rebuilding N.next).0
+
+    pub end-here : IfSome (get_or c.hosts p None) (λ h. IsTrue (is_end h.stage))
+    end-here = subst (λ o. IfSome o (λ h. IsTrue (is_end h.stage))) (sym N.is) (reports-end c.coordinator p N.at N.rebuilding N.next).1
+
+    pub report-fits : (n : ℕ) → ((h : Host V A) → get_or c.hosts p None ≡ Some h → n ≡ due_count p h.pending) → MayReport c.coordinator p n
+    report-fits n due = subst (MayReport c.coordinator p) (sym (due N.at N.is)) ((may P c K p Todo.Report N).report N.next)
+
+    pub reported-step : (hs : List (Option (Host V A))) (co : Coordinator) (n : ℕ)
+        → ((h : Host V A) → get_or c.hosts p None ≡ Some h → hs ≡ set c.hosts p (Some (record h { reported = true })))
+        → ((h : Host V A) → get_or c.hosts p None ≡ Some h → n ≡ due_count p h.pending) → co ≡ reported c.coordinator p n
+        → (record c { hosts = hs; coordinator = co }, outcome.Ready n) ≡ step P c (event.Work p)
+    reported-step hs co n hosts due told = reported-work P c p N.at N.now hs co n (due N.at N.is) (hosts N.at N.is) told ∙ step-is P c p Todo.Report N
+
+-- a batch is sent
+module _ {V A : Type 0} (P : Program V A) (c : Cluster V A) (K : Agrees P c) (p q : ℕ) (N : HasToDo c p (Todo.Send q)) where
+  pub line-here : (ps : List ℕ) → ps ≡ parties c.coordinator → IfSome (get_or c.hosts p None) (λ h. MaySend (without_place ps p) h)
+  line-here ps same = subst (λ o. IfSome o (λ h. MaySend (without_place ps p) h)) (sym N.is)
+      (subst (λ qs. MaySend (without_place qs p) N.at) (sym same)
+      (let S = sends-to c.coordinator p N.at N.rebuilding q N.next in record { computed = S.computed; unfinished = S.unfinished; left = ap is_some S.left }))
+
+  abbrev pub batch-with : Body V A → Batch V A
+  batch-with b = record { serial = c.serial; epoch = c.coordinator.epoch; round = c.coordinator.round; sender = p; receiver = q; body = b }
+
+  module _ (w : PlaceInRebuild) (place_is : w ≡ place_in P c p) (logs : List Log) (same : logs ≡ c.logs) (ps : List ℕ) (parties_are : ps ≡ parties c.coordinator) (b : Body V A)
+      (slot : Option (Host V A)) (slot_is : slot ≡ host c p) (body : (h : Host V A) → slot ≡ Some h → b ≡ body_after w logs h q h.stage) where
+    pub sent-step : {E : Type 0} (r : Result (Outcome V A) E) (hs : List (Option (Host V A))) (fl : List (Batch V A)) (n : ℕ)
+        → IfOk r (λ o. o ≡ outcome.Sent c.serial (stage_of_body b) q)
+        → OnOk r ((h : Host V A) (q' : ℕ) → get_or c.hosts p None ≡ Some h → unsent (without_place ps p) h.sent ≡ Some q' → hs ≡ set c.hosts p (Some (sent_host (without_place ps p) q' h)))
+        → OnOk r (fl ≡ c.flight ++ batch-with b ∷ []) → OnOk r (n ≡ c.serial + 1)
+        → IfOk r (λ o. (record c { hosts = hs; flight = fl; serial = n }, o) ≡ step P c (event.Work p))
+    sent-step (Ok o) hs fl n told hosts flight serial =
+        let h = N.at in
+        let S = sends-to c.coordinator p h N.rebuilding q N.next in
+        let body' : b ≡ body_after (place_in P c p) c.logs h q h.stage = body h (slot_is ∙ N.is) ∙ (λ j. body_after (place_is j) (same j) h q h.stage) in
+        let hosts' : hs ≡ set c.hosts p (Some (sent_host (others c.coordinator p) q h))
+        = hosts h q N.is (ap (λ qs. unsent (without_place qs p) h.sent) parties_are ∙ S.left) ∙ ap (λ qs. set c.hosts p (Some (sent_host (without_place qs p) q h))) parties_are in
+        sent-work P c p h N.now (may P c K p (Todo.Send q) N).stage S.unfinished q hs fl n b o body' told hosts' flight serial ∙ step-is P c p (Todo.Send q) N
+    sent-step (Err e) hs fl n told hosts flight serial = tt
+
+-- a send that fails leaves all as it was
+pub sent-kept : {V A E : Type 0} (k : Cluster V A) (hs : List (Option (Host V A))) (fl : List (Batch V A)) (n : ℕ) (r : Result (Outcome V A) E)
+    → OnErr r (hs ≡ k.hosts) → OnErr r (fl ≡ k.flight) → OnErr r (n ≡ k.serial) → OnErr r (record k { hosts = hs; flight = fl; serial = n } ≡ k)
+sent-kept k hs fl n (Ok o) a b c = tt
+sent-kept k hs fl n (Err e) a b c = λ j. record k { hosts = a j; flight = b j; serial = c j }
