@@ -6,7 +6,8 @@ use Rattle.std.proofs.lemmas.List.{append-nil, drop-take, drop-drop, take-take, 
 use Rattle.gr_outside.specs.declared.faults.FileFault.{FileFault}
 use Rattle.gr_outside.specs.Files.{FilesSeen, HasWritten, Extends}
 use Rattle.gr_outside.proofs.Written.{told-grows, told-refused}
-use Rattle.gr_play.specs.Tracing.{Traces, TracesPart, GainsTrace, Adds}
+use Rattle.gr_play.specs.Inside.Adding.{GainsTrace, Adds}
+use Rattle.gr_play.specs.Tracing.{Traces, TracesPart}
 
 pub GainsTrace-nothing : (a : FilesSeen) → GainsTrace a a []
 GainsTrace-nothing a base name had held = subst (Traces base a name) (sym (append-nil had)) held

@@ -3,7 +3,7 @@ pub mod FirstPlaces
 pub mod Following
 pub mod Kept
 pub mod Onward
-pub mod Outcomes
+pub mod Placed
 pub mod Positions
 pub mod Reached
 pub mod Rooms

@@ -12,7 +12,7 @@ use Rattle.gr_cluster.specs.Runs.{Position, Played, is_commit, lines_after, next
 use Rattle.gr_cluster.specs.TraceText.{trace_line, trace_text}
 use Rattle.gr_lists.proofs.Tests.{by_option}
 use Rattle.gr_play.specs.Playing.{Plays}
-use Rattle.gr_play.specs.Progress.{SameFrom, Leads}
+use Rattle.gr_play.specs.Inside.Progress.{SameFrom, Leads}
 use Rattle.gr_play.specs.Tracing.{text_of_steps}
 
 module _ {V A : Type 0} (P : Program V A) where

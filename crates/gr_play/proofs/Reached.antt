@@ -13,8 +13,9 @@ use Rattle.gr_cluster.specs.Step.{step}
 use Rattle.gr_cluster.specs.Canonical.{next_canonical}
 use Rattle.gr_cluster.specs.Runs.{Position, IsWhole, is_commit, event_of, lines_after, next_event, next_position, position_after}
 use Rattle.gr_play.specs.Playing.{start, Plays}
-use Rattle.gr_play.specs.Progress.{canonical_line, SameFrom, PlaysTo, PlaysPart, PlaysEvent, FailsBefore, FailsAfter}
-use Rattle.gr_play.specs.Tracing.{text_of_steps, Adds}
+use Rattle.gr_play.specs.Inside.Progress.{canonical_line, SameFrom, PlaysTo, PlaysPart, PlaysEvent, FailsBefore, FailsAfter}
+use Rattle.gr_play.specs.Inside.Adding.{Adds}
+use Rattle.gr_play.specs.Tracing.{text_of_steps}
 use Rattle.gr_play.proofs.Adding.{Adds-nothing, Adds-trans}
 use Rattle.gr_play.proofs.Positions.{Leads-nothing, Leads-one, Leads-trans, Leads-plays, Leads-Plays, Plays-nothing, next-some, text-nothing, text-one, text-add}
 

@@ -1,24 +1,15 @@
 -- Room in the counts of a cluster, and what a step leaves of it.
-use Rattle.std.proofs.Common.{◌≡◌, ℕ, ◌+◌, ◌*◌, ◌^◌, ◌<◌, ◌≤◌, length, refl, ap, arith, Some, mul_assoc}
-use Rattle.std.specs.Prelude.{IsTrue}
-use Rattle.std.proofs.Math.Nat.{mul-le-mul_left}
+use Rattle.std.proofs.Common.{◌≡◌, ℕ, ◌+◌, ◌*◌, ◌^◌, ◌<◌, ◌≤◌, length, arith, Some}
 use Rattle.gr_program.specs.Program.{Program, ProgramLaws}
 use Rattle.gr_sched.specs.declared.event.Event.{Event}
-use Rattle.gr_view.specs.Modes.{is_over}
-use Rattle.gr_view.specs.Decisions.{parties, looked_at}
 use Rattle.gr_cluster.specs.Tables.{Cluster}
 use Rattle.gr_cluster.specs.Step.{step}
 use Rattle.gr_cluster.specs.Canonical.{next_canonical}
-use Rattle.gr_cluster.specs.Left.{left}
-use Rattle.gr_lists.proofs.Tests.{by_test}
-use Rattle.gr_law_runs.specs.Undisturbed.{is_plain, RunsUndisturbed}
-use Rattle.gr_law_left.specs.ToGo.{to_go}
-use Rattle.gr_law_left.proofs.Bounded.{left-bounded}
-use Rattle.gr_law_left.proofs.Commit.{parties-few}
+use Rattle.gr_cluster.specs.ToGo.{most_left, to_go}
+use Rattle.gr_agree.specs.Agree.{Invariant}
 use Rattle.gr_law_left.proofs.Counts.{step-counts}
-use Rattle.gr_law_left.proofs.Places.{left-over}
-use Rattle.gr_law_left.proofs.Undisturbed.{not-failed, running, to_go-kept, to_go-falls, canonical-is}
-use Rattle.gr_play.specs.Room.{HasRoom, HasRoomFor}
+use Rattle.gr_law_bounds.proofs.ToGo.{to_go-bounded, to_go-added, to_go-falls, canonical-is}
+use Rattle.gr_play.specs.Inside.Room.{HasRoom, HasRoomFor}
 
 module _ {V A : Type 0} (c : Cluster V A) (taken : ℕ) where
   -- where there is room for lines there is room for a step
@@ -42,11 +33,11 @@ module _ {V A : Type 0} (c : Cluster V A) (taken : ℕ) where
     flight = let r = R.flight in omega (arith, r, le);
   }
 
-module _ {V A : Type 0} (P : Program V A) (L : ProgramLaws P) (c : Cluster V A) (U : RunsUndisturbed P c) (taken : ℕ) where
+module _ {V A : Type 0} (P : Program V A) (c : Cluster V A) (e : Event) (I : Invariant P c) (K : Invariant P (step P c e).0) (taken : ℕ) where
   -- an event of a line takes room for one line
-  pub HasRoomFor-plain : (e : Event) → IsTrue (is_plain e) → (n : ℕ) → HasRoomFor c taken (n + 1) → HasRoomFor (step P c e).0 (taken + 1) n
-  HasRoomFor-plain e y n R =
-      let g = to_go-kept P L U.0 c U.1 e y in
+  pub HasRoomFor-event : (n : ℕ) → HasRoomFor c taken (n + 1) → HasRoomFor (step P c e).0 (taken + 1) n
+  HasRoomFor-event n R =
+      let g = to_go-added P c e I K in
       let k = step-counts P c e in
       record {
         few = let r = R.few in omega (arith, r);
@@ -58,11 +49,11 @@ module _ {V A : Type 0} (P : Program V A) (L : ProgramLaws P) (c : Cluster V A) 
       }
 
   -- a canonical event takes none
-  pub HasRoomFor-canonical : (e : Event) → next_canonical c ≡ Some e → (n : ℕ) → HasRoomFor c taken n → HasRoomFor (step P c e).0 (taken + 1) n
-  HasRoomFor-canonical e is n R =
-      let g = to_go-falls P L U.0 c U.1 e is in
+  pub HasRoomFor-canonical : ProgramLaws P → next_canonical c ≡ Some e → (n : ℕ) → HasRoomFor c taken n → HasRoomFor (step P c e).0 (taken + 1) n
+  HasRoomFor-canonical L is n R =
+      let g = to_go-falls P c e I K L is in
       let k = step-counts P c e in
-      let f = (canonical-is P L U.0 c U.1 e is).flight in
+      let f = (canonical-is P I.0 c I.1 e is).flight in
       record {
         few = R.few;
         steps = let r = R.steps in omega (arith, r, g);
@@ -72,28 +63,13 @@ module _ {V A : Type 0} (P : Program V A) (L : ProgramLaws P) (c : Cluster V A) 
         flight = let r = R.flight in let few = R.few in omega (arith, r, few, f);
       }
 
--- what is left of an epoch
-module _ {V A : Type 0} (P : Program V A) (L : ProgramLaws P) (c : Cluster V A) (U : RunsUndisturbed P c) where
-  left-few : length c.flight ≤ 200000 → left c ≤ 232769
-  left-few f = by_test (is_over c.coordinator.mode)
-      (λ o. let none = left-over c o in omega (arith, none))
-      (λ o.
-      let n = length (looked_at c.coordinator) in
-      let calm = not-failed P L U.0 c U.1 in
-      let same : looked_at c.coordinator ≡ parties c.coordinator = rw calm refl in
-      let few = parties-few P U.0 c (U.1).agrees (running P L U.0 c U.1 o) in
-      let few' : n ≤ 64 = omega (arith, few, ap length same) in
-      let bound = left-bounded P U.0 c (U.1).agrees in
-      let square : n * n ≤ n * 64 = mul-le-mul_left n few' in
-      let eight : 8 * n * n ≡ 8 * (n * n) = mul_assoc 8 n n in
-      omega (arith, bound, square, eight, few', f))
-
+module _ {V A : Type 0} (P : Program V A) (c : Cluster V A) (I : Invariant P c) where
   -- a schedule begins with room for all its lines
   pub HasRoomFor-start : (taken lines : ℕ) → taken ≡ 0 → lines ≤ 200000 → c.coordinator.limit < 2 ^ 32 → length c.flight ≤ 200000
       → c.serial < 2 ^ 62 → c.coordinator.epoch < 2 ^ 62 → c.coordinator.commits < 2 ^ 62 → HasRoomFor c taken lines
   HasRoomFor-start taken lines none few limit flight serial epoch commits =
-      let l = left-few flight in
-      let go : to_go c ≤ 232769 + 32769 * 2 ^ 32 = omega (arith, l, limit) in
+      let bound = to_go-bounded P c I in
+      let go : to_go c ≤ 200000 + most_left * (2 ^ 32 + 4) = omega (arith, bound, flight, limit) in
       record {
         few = few;
         steps = omega (arith, none, few, go);

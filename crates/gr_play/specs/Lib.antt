@@ -1,5 +1,3 @@
+pub mod Inside
 pub mod Playing
-pub mod Progress
-pub mod Room
-pub mod Stops
 pub mod Tracing

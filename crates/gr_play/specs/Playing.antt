@@ -1,7 +1,8 @@
 -- What a call of `play` makes of a cluster, and how it ends.
-use Rattle.std.specs.Prelude.{ℕ, ◌≡◌, List, length, Option, Some, None}
+use Rattle.std.specs.Prelude.{ℕ, ◌≡◌, Bool, true, false, List, length, count_by, Option, Some, None}
 use Rattle.gr_program.specs.Program.{Program}
 use Rattle.gr_sched.specs.declared.event.Line.{Line}
+use Rattle.gr_sched.specs.declared.event.Line.TheVariants as line
 use Rattle.gr_cluster.specs.Tables.{Cluster}
 use Rattle.gr_cluster.specs.Runs.{Position, position_after, steps_of}
 use Rattle.gr_cluster.specs.Ending as cluster
@@ -11,6 +12,15 @@ use Rattle.gr_play.specs.declared.ending.Ending.TheVariants as ending
 -- where a schedule begins
 abbrev pub start : {V A : Type 0} → Cluster V A → List Line → Position V A
 start c ls = record { cluster = c; lines = ls }
+
+-- a line that names its event, and so is no `settle` or `finish`
+abbrev pub names_event : Line → Bool
+names_event (line.Step e) = true
+names_event _ = false
+
+-- how many such lines a schedule has
+abbrev pub event_lines : List Line → ℕ
+event_lines ls = count_by names_event ls
 
 -- so many steps were played from a position, and led to this cluster
 pub record Plays {V A : Type 0} (P : Program V A) (s : Position V A) (steps : ℕ) (end : Cluster V A) : Type 0 where

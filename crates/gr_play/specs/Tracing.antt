@@ -1,5 +1,5 @@
 -- What a call of `play` leaves in the file of its trace.
-use Rattle.std.specs.Prelude.{ℕ, ◌≡◌, ◌≤◌, ◌++◌, Bool, false, List, take, IsTrue, IfSome, IsSomeAnd}
+use Rattle.std.specs.Prelude.{ℕ, ◌≡◌, false, List, take, IsTrue, IfSome, IsSomeAnd}
 use Rattle.gr_program.specs.Program.{Program}
 use Rattle.gr_batch.specs.Telling.{Telling}
 use Rattle.gr_outside.specs.Files.{FilesSeen, HasWritten, LetsGo}
@@ -23,15 +23,3 @@ pub record TracesPart (before after : FilesSeen) (name text : List ℕ) : Type 0
 pub record CountsNoLoad (before after : FilesSeen) : Type 0 where
   pub load_faults : after.load_faults ≡ before.load_faults
   pub long_loads : after.long_loads ≡ before.long_loads
-
--- whatever the trace holds, it holds this text besides
-abbrev pub GainsTrace : FilesSeen → FilesSeen → List ℕ → Type 0
-GainsTrace before after text = (base : FilesSeen) (name had : List ℕ) → Traces base before name had → Traces base after name (had ++ text)
-
--- what a call adds to the trace, where there is one
-pub record Adds (traced : Bool) (before after : FilesSeen) (text : List ℕ) : Type 0 where
-  pub gained : IsTrue traced → GainsTrace before after text
-  pub untraced : traced ≡ false → after ≡ before
-  pub begun : after.is_begun ≡ before.is_begun
-  pub loads : CountsNoLoad before after
-  pub later : before.write_faults ≤ after.write_faults

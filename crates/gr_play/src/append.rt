@@ -1,6 +1,6 @@
 ghost use Rattle.std.specs.Prelude.{ℕ, true, take, IsTrue, OnOk, OnErr, IsErrOf};
 ghost use Rattle.gr_outside.specs.Causes.{Rose};
-ghost use Rattle.gr_play.specs.Tracing.{Adds};
+ghost use Rattle.gr_play.specs.Inside.Adding.{Adds};
 
 use gr_outside::{FileFault, Files};
 use std::alloc::Global;

@@ -1,7 +1,7 @@
 ghost use Rattle.std.specs.Prelude.{◌≡◌, ◌↔◌, false, Some, IsNone, IsTrue, take};
 ghost use Rattle.std.specs.List.{find};
 ghost use Rattle.gr_base.specs.Places.{below};
-ghost use Rattle.gr_view.specs.Modes.{is_over, is_failed, is_rebuild};
+ghost use Rattle.gr_view.specs.Modes.{is_over, is_failed};
 ghost use Rattle.gr_cluster.specs.Tables.{host};
 ghost use Rattle.gr_cluster.specs.Todo.{can_work};
 ghost use Rattle.gr_cluster.specs.Canonical.{canonical_decision, next_canonical};
@@ -14,12 +14,10 @@ use gr_view::Mode;
 
 /// The event that comes next where nobody chooses: the delivery of the first batch in flight; else the work of the least
 /// place that can work; else, after a failure and where no further live place is down, a recovery with a spare for each
-/// of the first dead places; else a barrier. None exactly where the run is over. It is not asked yet while a recovery or
-/// a repair is open.
+/// of the first dead places; else a barrier. None exactly where the run is over.
 ///
 /// It takes no memory, and for each place the time to look at its inbox.
 pub fn next_canonical<P: VertexProgram>(cluster: &Cluster<P>) -> Option<Event>
-    requires { is_rebuild cluster.now.cluster.coordinator.mode ≡ false }
     ensures event { result ≡ next_canonical cluster.now.cluster }
     ensures none { IsNone result ↔ IsTrue (is_over cluster.now.cluster.coordinator.mode) }
 {
@@ -31,8 +29,7 @@ pub fn next_canonical<P: VertexProgram>(cluster: &Cluster<P>) -> Option<Event>
 
 // The event that comes next in a run that is not over.
 fn next_event<P: VertexProgram>(cluster: &Cluster<P>) -> Event
-    requires going { is_over cluster.now.cluster.coordinator.mode ≡ false }
-    requires no_rebuild { is_rebuild cluster.now.cluster.coordinator.mode ≡ false }
+    requires { is_over cluster.now.cluster.coordinator.mode ≡ false }
     ensures { Some result ≡ next_canonical cluster.now.cluster }
 {
     if cluster.flight_len() > 0 {
@@ -85,7 +82,6 @@ fn first_places(places: PlaceSet, count: u8) -> PlaceSet
 
 // The least place that can work.
 fn first_worker<P: VertexProgram>(cluster: &Cluster<P>) -> Option<u8>
-    requires { is_rebuild cluster.now.cluster.coordinator.mode ≡ false }
     ensures { result ≡ find (λ p. can_work cluster.now.cluster.coordinator p (host cluster.now.cluster p)) (below cluster.now.cluster.places) }
 {
     for p in 0..cluster.places() {

@@ -1,14 +1,15 @@
-ghost use Rattle.std.specs.Prelude.{ℕ, ◌≡◌, ◌⊎◌, ◌<◌, take, IsTrue, IfOk, OnOk, OnErr, IsErrOf};
+ghost use Rattle.std.specs.Prelude.{ℕ, ◌≡◌, ◌⊎◌, take, IsTrue, IfOk, OnOk, OnErr, IsErrOf};
 ghost use Rattle.gr_outside.specs.Causes.{Rose};
 ghost use Rattle.gr_batch.specs.Telling.{telling};
-ghost use Rattle.gr_sched.specs.declared.event.Event.TheVariants as kind;
+ghost use Rattle.gr_sched.specs.declared.event.Line.TheVariants as line;
+ghost use Rattle.gr_sched.specs.Reading.{places_of, are_below};
 ghost use Rattle.gr_report.specs.Goes.{goes_with};
 ghost use Rattle.gr_report.specs.Trace.{outcome_line};
 ghost use Rattle.gr_cluster.specs.Runs.{is_commit};
-ghost use Rattle.gr_law_runs.specs.Undisturbed.{is_plain, RunsUndisturbed};
-ghost use Rattle.gr_play.specs.Progress.{PlaysEvent, FailsBefore, FailsAfter};
-ghost use Rattle.gr_play.specs.Room.{HasRoom};
-ghost use Rattle.gr_play.specs.Tracing.{Adds};
+ghost use Rattle.gr_agree.specs.Agree.{Invariant};
+ghost use Rattle.gr_play.specs.Inside.Progress.{PlaysEvent, FailsBefore, FailsAfter};
+ghost use Rattle.gr_play.specs.Inside.Room.{HasRoom};
+ghost use Rattle.gr_play.specs.Inside.Adding.{Adds};
 
 use crate::append::append_whole;
 use crate::stop::Stop;
@@ -30,19 +31,21 @@ pub(crate) fn play_event<P: VertexProgram, F: Files>(
     traced: bool,
     steps: &mut u64,
 ) -> Result<bool, Stop>
-    requires undisturbed { RunsUndisturbed (P.program_of cluster.old.program) cluster.old.cluster }
-    requires plain { IsTrue (is_plain event) }
-    requires place { (p : ℕ) → event ≡ kind.Work p → p < cluster.old.cluster.places }
+    requires places { IsTrue (are_below cluster.old.cluster.places (places_of (line.Step event))) }
     requires room { HasRoom cluster.old.cluster steps.old }
     requires begun { IsTrue traced → IsTrue (F.seen files.old).is_begun }
     ensures ok { IfOk result (λ commits. PlaysEvent (P.program_of cluster.old.program) (telling P.Value.numbers_of P.Acc.numbers_of) traced steps.old steps.new (F.seen files.old) (F.seen files.new) cluster.old.cluster event cluster.new.cluster commits) }
     ensures err { OnErr result (FailsBefore (P.program_of cluster.old.program) (telling P.Value.numbers_of P.Acc.numbers_of) traced steps.old steps.new (F.seen files.old) (F.seen files.new) cluster.old.cluster event cluster.new.cluster
         ⊎ FailsAfter (P.program_of cluster.old.program) (telling P.Value.numbers_of P.Acc.numbers_of) traced steps.old steps.new (F.seen files.old) (F.seen files.new) cluster.old.cluster event cluster.new.cluster) }
+    ensures agrees { Invariant (P.program_of cluster.old.program) cluster.new.cluster }
     ensures program { cluster.new.program ≡ cluster.old.program }
     ensures fault { IsErrOf result Stop.TraceFault → IsTrue traced × Rose (F.seen files.old).write_faults (F.seen files.new).write_faults }
 {
     let told = event;
-    match cluster.step(event) {
+    let taken = cluster.step(event);
+    // A look at the mode tells that the cluster agrees with a committed state.
+    let _mode = cluster.mode();
+    match taken {
         Ok(outcome) => {
             *steps += 1;
             tell(alloc, told, &outcome, files, traced)

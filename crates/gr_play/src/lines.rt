@@ -1,14 +1,14 @@
-ghost use Rattle.std.specs.Prelude.{ℕ, ◌≡◌, ◌+◌, ◌≤◌, [], ◌∷◌, List, length, IsTrue, OnOk, OnErr, IsErrOf};
+ghost use Rattle.std.specs.Prelude.{ℕ, ◌≡◌, ◌+◌, ◌*◌, ◌≤◌, [], ◌∷◌, List, length, IsTrue, OnOk, OnErr, IsErrOf};
 ghost use Rattle.std.specs.List.{All};
 ghost use Rattle.gr_outside.specs.Causes.{Rose};
 ghost use Rattle.gr_batch.specs.Telling.{telling};
 ghost use Rattle.gr_sched.specs.declared.event.Line as kinds;
 ghost use Rattle.gr_sched.specs.Reading.{places_of, are_below};
-ghost use Rattle.gr_law_runs.specs.Undisturbed.{is_plain_line, RunsUndisturbed};
-ghost use Rattle.gr_law_left.specs.ToGo.{to_go};
-ghost use Rattle.gr_play.specs.Playing.{start};
-ghost use Rattle.gr_play.specs.Progress.{canonical_line, PlaysTo, PlaysPart};
-ghost use Rattle.gr_play.specs.Room.{HasRoomFor};
+ghost use Rattle.gr_cluster.specs.ToGo.{most_added, to_go};
+ghost use Rattle.gr_agree.specs.Agree.{Invariant};
+ghost use Rattle.gr_play.specs.Playing.{start, event_lines};
+ghost use Rattle.gr_play.specs.Inside.Progress.{canonical_line, PlaysTo, PlaysPart};
+ghost use Rattle.gr_play.specs.Inside.Room.{HasRoomFor};
 
 use crate::canonical::next_canonical;
 use crate::event::play_event;
@@ -28,15 +28,14 @@ pub(crate) fn play_lines<P: VertexProgram, F: Files>(
     traced: bool,
     steps: &mut u64,
 ) -> Result<(), Stop>
-    requires undisturbed { RunsUndisturbed (P.program_of cluster.old.program) cluster.old.cluster }
-    requires plain { All (λ l. IsTrue (is_plain_line l)) schedule.now }
+    requires agrees { Invariant (P.program_of cluster.old.program) cluster.old.cluster }
     requires places { All (λ l. IsTrue (are_below cluster.old.cluster.places (places_of l))) schedule.now }
     requires room { HasRoomFor cluster.old.cluster steps.old (length schedule.now) }
     requires begun { IsTrue traced → IsTrue (F.seen files.old).is_begun }
     ensures ok { OnOk result (PlaysTo (P.program_of cluster.old.program) (telling P.Value.numbers_of P.Acc.numbers_of) traced steps.old steps.new (F.seen files.old) (F.seen files.new) (start cluster.old.cluster schedule.now) (start cluster.new.cluster [])) }
     ensures err { OnErr result (PlaysPart (P.program_of cluster.old.program) (telling P.Value.numbers_of P.Acc.numbers_of) traced steps.old steps.new (F.seen files.old) (F.seen files.new) (start cluster.old.cluster schedule.now) cluster.new.cluster) }
-    ensures few { steps.new + to_go cluster.new.cluster ≤ steps.old + to_go cluster.old.cluster + length schedule.now }
-    ensures undisturbed { RunsUndisturbed (P.program_of cluster.old.program) cluster.new.cluster }
+    ensures few { steps.new + to_go cluster.new.cluster ≤ steps.old + to_go cluster.old.cluster + most_added * event_lines schedule.now }
+    ensures agrees { Invariant (P.program_of cluster.old.program) cluster.new.cluster }
     ensures program { cluster.new.program ≡ cluster.old.program }
     ensures fault { IsErrOf result Stop.TraceFault → IsTrue traced × Rose (F.seen files.old).write_faults (F.seen files.new).write_faults }
 {
@@ -58,16 +57,15 @@ fn play_line<P: VertexProgram, F: Files>(
     traced: bool,
     steps: &mut u64,
 ) -> Result<(), Stop>
-    requires undisturbed { RunsUndisturbed (P.program_of cluster.old.program) cluster.old.cluster }
-    requires plain { IsTrue (is_plain_line line) }
+    requires agrees { Invariant (P.program_of cluster.old.program) cluster.old.cluster }
     requires places { IsTrue (are_below cluster.old.cluster.places (places_of line)) }
     requires room { HasRoomFor cluster.old.cluster steps.old 1 }
     requires begun { IsTrue traced → IsTrue (F.seen files.old).is_begun }
     ensures ok { OnOk result ((rest : List kinds.Line) → PlaysTo (P.program_of cluster.old.program) (telling P.Value.numbers_of P.Acc.numbers_of) traced steps.old steps.new (F.seen files.old) (F.seen files.new) (start cluster.old.cluster (line ∷ rest)) (start cluster.new.cluster rest)) }
     ensures err { OnErr result ((rest : List kinds.Line) → PlaysPart (P.program_of cluster.old.program) (telling P.Value.numbers_of P.Acc.numbers_of) traced steps.old steps.new (F.seen files.old) (F.seen files.new) (start cluster.old.cluster (line ∷ rest)) cluster.new.cluster) }
     ensures room { OnOk result ((n : ℕ) → HasRoomFor cluster.old.cluster steps.old (n + 1) → HasRoomFor cluster.new.cluster steps.new n) }
-    ensures few { steps.new + to_go cluster.new.cluster ≤ steps.old + to_go cluster.old.cluster + 1 }
-    ensures undisturbed { RunsUndisturbed (P.program_of cluster.old.program) cluster.new.cluster }
+    ensures few { steps.new + to_go cluster.new.cluster ≤ steps.old + to_go cluster.old.cluster + most_added * event_lines (line ∷ []) }
+    ensures agrees { Invariant (P.program_of cluster.old.program) cluster.new.cluster }
     ensures program { cluster.new.program ≡ cluster.old.program }
     ensures places { cluster.new.cluster.places ≡ cluster.old.cluster.places }
     ensures fault { IsErrOf result Stop.TraceFault → IsTrue traced × Rose (F.seen files.old).write_faults (F.seen files.new).write_faults }
@@ -91,14 +89,14 @@ fn play_canonical<P: VertexProgram, F: Files>(
     traced: bool,
     steps: &mut u64,
 ) -> Result<(), Stop>
-    requires undisturbed { RunsUndisturbed (P.program_of cluster.old.program) cluster.old.cluster }
+    requires agrees { Invariant (P.program_of cluster.old.program) cluster.old.cluster }
     requires room { HasRoomFor cluster.old.cluster steps.old 0 }
     requires begun { IsTrue traced → IsTrue (F.seen files.old).is_begun }
     ensures ok { OnOk result ((rest : List kinds.Line) → PlaysTo (P.program_of cluster.old.program) (telling P.Value.numbers_of P.Acc.numbers_of) traced steps.old steps.new (F.seen files.old) (F.seen files.new) (start cluster.old.cluster (canonical_line through_commit ∷ rest)) (start cluster.new.cluster rest)) }
     ensures err { OnErr result ((rest : List kinds.Line) → PlaysPart (P.program_of cluster.old.program) (telling P.Value.numbers_of P.Acc.numbers_of) traced steps.old steps.new (F.seen files.old) (F.seen files.new) (start cluster.old.cluster (canonical_line through_commit ∷ rest)) cluster.new.cluster) }
     ensures room { (n : ℕ) → HasRoomFor cluster.old.cluster steps.old n → HasRoomFor cluster.new.cluster steps.new n }
     ensures few { steps.new + to_go cluster.new.cluster ≤ steps.old + to_go cluster.old.cluster }
-    ensures undisturbed { RunsUndisturbed (P.program_of cluster.old.program) cluster.new.cluster }
+    ensures agrees { Invariant (P.program_of cluster.old.program) cluster.new.cluster }
     ensures program { cluster.new.program ≡ cluster.old.program }
     ensures places { cluster.new.cluster.places ≡ cluster.old.cluster.places }
     ensures fault { IsErrOf result Stop.TraceFault → IsTrue traced × Rose (F.seen files.old).write_faults (F.seen files.new).write_faults }

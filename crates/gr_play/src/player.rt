@@ -1,4 +1,4 @@
-ghost use Rattle.std.specs.Prelude.{◌≡◌, ◌<◌, ◌≤◌, ◌+◌, ◌^◌, [], None, Some, length, is_ok, IsTrue, IsSome, IsNone, IfSome, IsSomeAnd, OnOk, OnErr, IsErrOf};
+ghost use Rattle.std.specs.Prelude.{◌≡◌, ◌≢◌, ◌<◌, ◌≤◌, ◌+◌, ◌*◌, ◌^◌, [], None, Some, length, is_ok, IsTrue, IsSome, IsNone, IfSome, IsSomeAnd, OnOk, OnErr, IsErrOf};
 ghost use Rattle.std.specs.List.{All};
 ghost use Rattle.std.specs.Option.{option_copied};
 ghost use Rattle.gr_outside.specs.Causes.{Rose};
@@ -7,9 +7,9 @@ ghost use Rattle.gr_batch.specs.Telling.{telling};
 ghost use Rattle.gr_sched.specs.Reading.{places_of, are_below};
 ghost use Rattle.gr_cluster.specs.Runs.{IsWhole, position_after};
 ghost use Rattle.gr_cluster.specs.Ending.{ending_of};
-ghost use Rattle.gr_law_runs.specs.Undisturbed.{is_plain_line, RunsUndisturbed};
-ghost use Rattle.gr_law_left.specs.ToGo.{to_go};
-ghost use Rattle.gr_play.specs.Playing.{start, Plays, told_by};
+ghost use Rattle.gr_cluster.specs.ToGo.{most_added, to_go};
+ghost use Rattle.gr_agree.specs.Agree.{Invariant};
+ghost use Rattle.gr_play.specs.Playing.{start, event_lines, Plays, told_by};
 ghost use Rattle.gr_play.specs.Tracing.{text_of_steps, Traces, TracesPart, CountsNoLoad};
 
 use crate::ending::Ending;
@@ -26,8 +26,10 @@ use std::alloc::Global;
 /// is begun, and the line of each step is appended as soon as the step is taken.
 ///
 /// `settle` plays canonical events through the next commit, and `finish` until the run is over. After `TraceFault` and
-/// `NoMemory` the cluster is the one after the counted steps. It plays in a cluster in which no place has failed, and no
-/// lines yet by which one does.
+/// `NoMemory` the cluster is the one after the counted steps; the list of lost vertices takes memory too.
+///
+/// One `settle` or `finish` plays at most `to_go` events, and a line that names an event adds at most as many as four
+/// epochs have.
 pub fn play<P: VertexProgram, F: Files>(
     alloc: Global,
     cluster: &mut Cluster<P>,
@@ -37,9 +39,7 @@ pub fn play<P: VertexProgram, F: Files>(
     steps: &mut u64,
 ) -> Ending
     requires none_yet { steps.old ≡ 0 }
-    requires undisturbed { RunsUndisturbed (P.program_of cluster.old.program) cluster.old.cluster }
     requires lines { length schedule.now ≤ 200000 }
-    requires plain { All (λ l. IsTrue (is_plain_line l)) schedule.now }
     requires places { All (λ l. IsTrue (are_below cluster.old.cluster.places (places_of l))) schedule.now }
     requires flight { length cluster.old.cluster.flight ≤ 200000 }
     requires serial { cluster.old.cluster.serial < 2 ^ 62 }
@@ -47,7 +47,7 @@ pub fn play<P: VertexProgram, F: Files>(
     requires commits { cluster.old.cluster.coordinator.commits < 2 ^ 62 }
     ensures steps { Plays (P.program_of cluster.old.program) (start cluster.old.cluster schedule.now) steps.new cluster.new.cluster }
     ensures program { cluster.new.program ≡ cluster.old.program }
-    ensures few { steps.new ≤ to_go cluster.old.cluster + length schedule.now }
+    ensures few { steps.new ≤ to_go cluster.old.cluster + most_added * event_lines schedule.now }
 
     // How it ends.
     ensures ending { IfSome (told_by result) (λ e. e ≡ ending_of cluster.new.cluster) }
@@ -60,7 +60,7 @@ pub fn play<P: VertexProgram, F: Files>(
     ensures untraced { IsNone trace.entry → F.seen files.new ≡ F.seen files.old }
     ensures loads { CountsNoLoad (F.seen files.old) (F.seen files.new) }
 {
-    // A look at the limit tells that it has 32 bits.
+    // A look at the limit tells that it has 32 bits, and that the cluster agrees with a committed state.
     let _limit = limit_of(cluster);
     if let Err(stop) = begin_trace(alloc, files, trace) {
         return stopped(stop);
@@ -73,8 +73,10 @@ pub fn play<P: VertexProgram, F: Files>(
 
 // The limit of rounds.
 fn limit_of<P: VertexProgram>(cluster: &Cluster<P>) -> u32
-    ensures { result ≡ cluster.now.cluster.coordinator.limit }
+    ensures limit { result ≡ cluster.now.cluster.coordinator.limit }
+    ensures agrees { Invariant (P.program_of cluster.now.program) cluster.now.cluster }
 {
+    let _mode = cluster.mode();
     cluster.coordinator().limit
 }
 
@@ -99,11 +101,15 @@ fn begin_trace<F: Files>(alloc: Global, files: &mut F, trace: Option<&str>) -> R
 
 // How the run of a cluster has ended.
 fn ending<P: VertexProgram>(cluster: &Cluster<P>) -> Ending
-    requires { RunsUndisturbed (P.program_of cluster.now.program) cluster.now.cluster }
-    ensures { told_by result ≡ Some (ending_of cluster.now.cluster) }
+    ensures told { IfSome (told_by result) (λ e. e ≡ ending_of cluster.now.cluster) }
+    ensures no_fault { result ≢ Ending.TraceFault }
 {
     match cluster.mode() {
         Mode::Done => Ending::Done,
+        Mode::Lost => match cluster.lost_list() {
+            Ok(vertices) => Ending::Lost(vertices),
+            Err(_) => Ending::NoMemory,
+        },
         _ => Ending::Unfinished(cluster.rounds()),
     }
 }

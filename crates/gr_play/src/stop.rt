@@ -21,7 +21,7 @@ impl From<OutOfMemory> for Stop {
 }
 
 impl From<FileFault> for Stop {
-    ghost use Rattle.gr_play.specs.Stops.{stop_of};
+    ghost use Rattle.gr_play.specs.Inside.Stops.{stop_of};
 
     ghost from_gives = { λ f s. s ≡ stop_of f };
 

@@ -1,10 +1,8 @@
 // A cluster that counts the steps that it takes, and tells each.
-ghost use Rattle.std.specs.Prelude.{ℕ, ◌≡◌, ◌+◌, ◌<◌, ◌≤◌, List, [], length, true, false, IsTrue};
+ghost use Rattle.std.specs.Prelude.{ℕ, ◌≡◌, ◌+◌, ◌<◌, ◌≤◌, length, true};
 ghost use Rattle.gr_sched.specs.declared.event.Event.TheVariants as kind;
-ghost use Rattle.gr_view.specs.Modes as modes;
-ghost use Rattle.gr_law_events.specs.Law.{drives};
 
-use gr_base::{OutOfMemory, PlaceSet, push_number};
+use gr_base::{OutOfMemory, push_number};
 use gr_core::Cluster;
 use gr_edges::read_graph;
 use gr_job::read_job;
@@ -48,28 +46,24 @@ impl<P: VertexProgram> Stepped<P> {
         })
     }
 
-    // Whether the cluster serves an event: it is of a place that there is, names none to be reborn, and brings no rebuild
-    // on.
-    fn may_take(&self, event: Event) -> bool
-        ensures rebuild { result ≡ true → IsTrue (modes.is_rebuild self.now.cluster.cluster.coordinator.mode) → drives event ≡ false }
-        ensures rebirth { result ≡ true → (ps : List ℕ) → event ≡ kind.Recover ps → ps ≡ [] }
+    // Whether an event is of a place that there is.
+    fn is_placed(&self, event: Event) -> bool
         ensures worker { result ≡ true → (p : ℕ) → event ≡ kind.Work p → p < self.now.cluster.cluster.places }
         ensures crashed { result ≡ true → (p n : ℕ) → event ≡ kind.Crash p n → p < self.now.cluster.cluster.places }
     {
-        let rebuild = is_rebuild(self.cluster.mode());
         match event {
-            Event::Work(p) => (p < self.cluster.places()) & !rebuild,
+            Event::Work(p) => p < self.cluster.places(),
             Event::Crash(p, _) => p < self.cluster.places(),
-            Event::Barrier => !rebuild,
-            Event::Recover(places) => places == PlaceSet::none(),
             _ => true,
         }
     }
 
-    /// Takes a step, and appends its line. Nothing happens where the cluster cannot take it, or after very many steps.
+    /// Takes a step, and appends its line. An event of a place that is not there, and one after very many steps, is not
+    /// taken, and the line says so.
     pub(crate) fn take(&mut self, event: Event, lines: &mut Vec<u8>) -> Result<(), OutOfMemory> {
         let asked = event;
-        if self.taken >= 100000 || !self.may_take(asked) {
+        if self.taken >= 100000 || !self.is_placed(asked) {
+            lines.extend_from_slice(b"not taken\n")?;
             return Ok(());
         }
         let told = step(self.alloc, &mut self.cluster, event, lines);
@@ -77,13 +71,10 @@ impl<P: VertexProgram> Stepped<P> {
         told
     }
 
-    /// Takes the events that come next where nobody chooses, through a barrier, and gives their lines.
+    /// Takes the events that come next where nobody chooses, through a barrier, and returns their lines.
     pub(crate) fn settle(&mut self) -> Result<Vec<u8>, OutOfMemory> {
         let mut lines = Vec::new(self.alloc);
         for _ in 0..1000 {
-            if is_rebuild(self.cluster.mode()) {
-                break;
-            }
             match next_canonical(&self.cluster) {
                 Some(event) => {
                     let is_barrier = matches!(event, Event::Barrier);
@@ -138,16 +129,6 @@ impl<P: VertexProgram> Stepped<P> {
     }
 }
 
-// Whether a recovery or a repair is open.
-fn is_rebuild(mode: Mode) -> bool
-    ensures { result ≡ modes.is_rebuild mode }
-{
-    match mode {
-        Mode::Recovering | Mode::Repairing => true,
-        _ => false,
-    }
-}
-
 // A step, whose line is appended. It raises each count by one at most.
 fn step<P: VertexProgram>(
     alloc: Global,
@@ -155,8 +136,6 @@ fn step<P: VertexProgram>(
     event: Event,
     lines: &mut Vec<u8>,
 ) -> Result<(), OutOfMemory>
-    requires rebuild { IsTrue (modes.is_rebuild cluster.old.cluster.coordinator.mode) → drives event ≡ false }
-    requires rebirth { (ps : List ℕ) → event ≡ kind.Recover ps → ps ≡ [] }
     requires worker { (p : ℕ) → event ≡ kind.Work p → p < cluster.old.cluster.places }
     requires crashed { (p n : ℕ) → event ≡ kind.Crash p n → p < cluster.old.cluster.places }
     requires serial { cluster.old.cluster.serial < 1000000 }

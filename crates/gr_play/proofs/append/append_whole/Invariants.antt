@@ -1,6 +1,6 @@
 use Rattle.std.proofs.Common.{◌≡◌, ℕ, ◌≤◌, length, take, drop, true}
 use Rattle.std.specs.Prelude.{IsTrue}
-use Rattle.gr_play.specs.Tracing.{Adds}
+use Rattle.gr_play.specs.Inside.Adding.{Adds}
 use Rattle.gr_play.proofs.append.append_whole.Given as goal
 
 abbrev pub invariant-loop-rest : goal.invariant-loop-rest

@@ -1,12 +1,10 @@
 use Rattle.std.proofs.Common.{◌≡◌, ◌∙◌, refl, sym, ap, subst, Some, Err, ◌⊎◌}
 use Rattle.gr_batch.specs.Telling.{telling}
 use Rattle.gr_cluster.specs.Canonical.{next_canonical}
-use Rattle.gr_law_runs.specs.Undisturbed.{RunsUndisturbed}
-use Rattle.gr_law_runs.proofs.Plain.{no-rebuild}
-use Rattle.gr_law_left.proofs.Undisturbed.{canonical-is}
+use Rattle.gr_agree.specs.Agree.{Invariant}
 use Rattle.gr_play.specs.declared.stop.Stop.TheVariants as stop
-use Rattle.gr_play.specs.Progress.{PlaysEvent, FailsBefore, FailsAfter}
-use Rattle.gr_play.proofs.Onward.{Rose-later, Going-nothing, Going-passed, Going-plain, Going-part, Going-failed, Going-onward, Going-nearer, Going-ended, Going-on}
+use Rattle.gr_play.specs.Inside.Progress.{PlaysEvent, FailsBefore, FailsAfter}
+use Rattle.gr_play.proofs.Onward.{Rose-later, Going-nothing, Going-passed, Going-placed, Going-part, Going-failed, Going-onward, Going-nearer, Going-ended, Going-on}
 use Rattle.gr_play.proofs.Rooms.{HasRoomFor-one}
 use Rattle.gr_play.proofs.lines.play_canonical.Goals as goal
 
@@ -20,10 +18,10 @@ canonical-init g c =
     let c0 = c.args.cluster.now.cluster in
     let from = c.args.steps.now in
     let a = g.F.Files.seen c.args.files.now in
-    record { program = refl; going = Going-nothing P L T traced through c0 from a c.requires.undisturbed }
+    record { program = refl; going = Going-nothing P L T traced through c0 from a c.requires.agrees }
 
-pub play_event-requires-clause-plain : goal.play_event-requires-clause-plain
-play_event-requires-clause-plain g c =
+pub play_event-requires-clause-places : goal.play_event-requires-clause-places
+play_event-requires-clause-places g c =
     let P = g.P.VertexProgram.program_of c.args.cluster.now.program in
     let L = g.met.P.VertexProgram.laws c.args.cluster.now.program in
     let T = telling g.P.Value.Datum.numbers_of g.P.Acc.Datum.numbers_of in
@@ -38,26 +36,7 @@ play_event-requires-clause-plain g c =
     let G = c.canonical.invariant.going in
     let e = c.in-Some.event in
     let is : next_canonical k ≡ Some e = sym c.in-Some.ensures.event in
-    Going-plain P L T traced through c0 from a k now b G e is
-
-pub play_event-requires-clause-place : goal.play_event-requires-clause-place
-play_event-requires-clause-place g c =
-    let P = g.P.VertexProgram.program_of c.args.cluster.now.program in
-    let L = g.met.P.VertexProgram.laws c.args.cluster.now.program in
-    let T = telling g.P.Value.Datum.numbers_of g.P.Acc.Datum.numbers_of in
-    let traced = c.args.traced in
-    let through = c.args.through_commit in
-    let c0 = c.args.cluster.now.cluster in
-    let from = c.args.steps.now in
-    let a = g.F.Files.seen c.args.files.now in
-    let k = c.canonical.cluster.cluster in
-    let now = c.canonical.steps in
-    let b = g.F.Files.seen c.canonical.files in
-    let G = c.canonical.invariant.going in
-    let e = c.in-Some.event in
-    let is : next_canonical k ≡ Some e = sym c.in-Some.ensures.event in
-    let U = G.onward.undisturbed in
-    (canonical-is P L U.0 k U.1 e is).of_place
+    Going-placed P L T traced through c0 from a k now b G e is
 
 pub play_event-requires-clause-room : goal.play_event-requires-clause-room
 play_event-requires-clause-room g c =
@@ -115,8 +94,9 @@ canonical-smaller g c =
     let to = c.play_event.new.steps in
     let b' = g.F.Files.seen c.play_event.new.files in
     let same = ap g.P.VertexProgram.program_of c.canonical.invariant.program in
+    let K = subst (λ Q. Invariant Q d) same c.in-Ok.ensures.agrees in
     let x = subst (λ Q. PlaysEvent Q T traced now to b b' k e d c.in-Ok.commits) same c.in-Ok.ensures.ok in
-    Going-nearer P L T traced through c0 from a k now b G e is d to b' c.in-Ok.commits x
+    Going-nearer P L T traced through c0 from a k now b G e is d K to b' c.in-Ok.commits x
 
 pub canonical-preserved : goal.canonical-preserved
 canonical-preserved g c =
@@ -138,10 +118,11 @@ canonical-preserved g c =
     let to = c.play_event.new.steps in
     let b' = g.F.Files.seen c.play_event.new.files in
     let same = ap g.P.VertexProgram.program_of c.canonical.invariant.program in
+    let K = subst (λ Q. Invariant Q d) same c.in-Ok.ensures.agrees in
     let x = subst (λ Q. PlaysEvent Q T traced now to b b' k e d c.in-Ok.commits) same c.in-Ok.ensures.ok in
     record {
       program = c.in-Ok.ensures.program ∙ c.canonical.invariant.program;
-      going = Going-on P L T traced through c0 from a k now b G e is d to b' c.in-Ok.commits x c.if-commits-through_commit.false;
+      going = Going-on P L T traced through c0 from a k now b G e is d K to b' c.in-Ok.commits x c.if-commits-through_commit.false;
     }
 
 pub returns-then-commits-through_commit : goal.returns-then-commits-through_commit
@@ -164,14 +145,15 @@ returns-then-commits-through_commit g c =
     let to = c.play_event.new.steps in
     let b' = g.F.Files.seen c.play_event.new.files in
     let same = ap g.P.VertexProgram.program_of c.canonical.invariant.program in
+    let K = subst (λ Q. Invariant Q d) same c.in-Ok.ensures.agrees in
     let x = subst (λ Q. PlaysEvent Q T traced now to b b' k e d c.in-Ok.commits) same c.in-Ok.ensures.ok in
-    let O = Going-onward P L T traced through c0 from a k now b G e is d to b' c.in-Ok.commits x in
+    let O = Going-onward P L T traced through c0 from a k now b G e is d K to b' c.in-Ok.commits x in
     record {
-      ok = Going-ended P L T traced through c0 from a k now b G e is d to b' c.in-Ok.commits x c.if-commits-through_commit.true;
+      ok = Going-ended P L T traced through c0 from a k now b G e is d K to b' c.in-Ok.commits x c.if-commits-through_commit.true;
       err = tt;
       room = O.room;
       few = O.few;
-      undisturbed = O.undisturbed;
+      agrees = O.agrees;
       program = c.in-Ok.ensures.program ∙ c.canonical.invariant.program;
       places = O.places;
       fault = λ f. absurd (cc);
@@ -197,14 +179,15 @@ returns-in-Err g c =
     let to = c.play_event.new.steps in
     let b' = g.F.Files.seen c.play_event.new.files in
     let same = ap g.P.VertexProgram.program_of c.canonical.invariant.program in
+    let K = subst (λ Q. Invariant Q d) same c.in-Err.ensures.agrees in
     let x = subst (λ Q. FailsBefore Q T traced now to b b' k e d ⊎ FailsAfter Q T traced now to b b' k e d) same c.in-Err.ensures.err in
-    let O = Going-failed P L T traced through c0 from a k now b G e is d to b' x in
+    let O = Going-failed P L T traced through c0 from a k now b G e is d K to b' x in
     record {
       ok = tt;
-      err = Going-part P L T traced through c0 from a k now b G e is d to b' x;
+      err = Going-part P L T traced through c0 from a k now b G e is d K to b' x;
       room = O.room;
       few = O.few;
-      undisturbed = O.undisturbed;
+      agrees = O.agrees;
       program = c.in-Err.ensures.program ∙ c.canonical.invariant.program;
       places = O.places;
       fault = λ f. let s : c.in-Err.stop ≡ stop.TraceFault = cc in let r = c.in-Err.ensures.fault (ap Err s) in (r.0, Rose-later a.write_faults b.write_faults b'.write_faults G.later r.1);
@@ -229,15 +212,8 @@ returns g c =
       err = tt;
       room = G.onward.room;
       few = G.onward.few;
-      undisturbed = G.onward.undisturbed;
+      agrees = G.onward.agrees;
       program = c.canonical.invariant.program;
       places = G.onward.places;
       fault = λ f. absurd (cc);
     }
-
-pub next_canonical-requires : goal.next_canonical-requires
-next_canonical-requires g c = (no-rebuild c.canonical.cluster.cluster.coordinator.mode ((c.canonical.invariant.going).onward.undisturbed.1).mode).0
-
-pub play_event-requires-clause-undisturbed : goal.play_event-requires-clause-undisturbed
-play_event-requires-clause-undisturbed g c =
-    subst (λ Q. RunsUndisturbed Q c.canonical.cluster.cluster) (sym (ap g.P.VertexProgram.program_of c.canonical.invariant.program)) (c.canonical.invariant.going).onward.undisturbed

@@ -1,6 +1,6 @@
 use Rattle.std.proofs.Common.{◌≡◌}
 use Rattle.gr_batch.specs.Telling.{telling}
-use Rattle.gr_law_left.specs.ToGo.{to_go}
+use Rattle.gr_cluster.specs.ToGo.{to_go}
 use Rattle.gr_play.proofs.Onward.{Going}
 use Rattle.gr_play.proofs.lines.play_canonical.Given as goal
 

@@ -1,10 +1,10 @@
-use Rattle.std.proofs.Common.{◌≡◌, ◌∙◌, ◌+◌, ◌-◌, ◌∷◌, length, drop, refl, sym, ap, subst, arith, drop-cons, add-one, suc}
+use Rattle.std.proofs.Common.{◌≡◌, ◌∙◌, ◌+◌, ◌-◌, [], ◌∷◌, length, drop, refl, sym, ap, subst, arith, drop-cons, add-one, suc}
 use Rattle.gr_batch.specs.Telling.{telling}
-use Rattle.gr_law_runs.specs.Undisturbed.{RunsUndisturbed}
-use Rattle.gr_play.specs.Playing.{start}
-use Rattle.gr_play.specs.Progress.{PlaysTo, PlaysPart}
-use Rattle.gr_play.specs.Room.{HasRoomFor}
-use Rattle.gr_play.proofs.Onward.{Rose-later}
+use Rattle.gr_agree.specs.Agree.{Invariant}
+use Rattle.gr_play.specs.Playing.{start, event_lines}
+use Rattle.gr_play.specs.Inside.Progress.{PlaysTo, PlaysPart}
+use Rattle.gr_play.specs.Inside.Room.{HasRoomFor}
+use Rattle.gr_play.proofs.Onward.{Rose-later, event_lines-cons}
 use Rattle.gr_play.proofs.Positions.{SameFrom-refl}
 use Rattle.gr_play.proofs.Reached.{PlaysTo-nothing, PlaysTo-trans, PlaysTo-part}
 use Rattle.gr_play.proofs.lines.play_lines.Goals as goal
@@ -21,7 +21,7 @@ lines-init g c =
     record {
       program = refl;
       places = refl;
-      undisturbed = c.requires.undisturbed;
+      agrees = c.requires.agrees;
       room = subst (HasRoomFor c0 from) all c.requires.room;
       few = omega arith;
       begun = refl;
@@ -29,9 +29,9 @@ lines-init g c =
       played = PlaysTo-nothing P T c.args.traced from from a a (start c0 ls) (start c0 ls) refl refl (SameFrom-refl P (start c0 ls));
     }
 
-pub play_line-requires-clause-undisturbed : goal.play_line-requires-clause-undisturbed
-play_line-requires-clause-undisturbed g c =
-    subst (λ Q. RunsUndisturbed Q c.lines.cluster.cluster) (sym (ap g.P.VertexProgram.program_of c.lines.invariant.program)) c.lines.invariant.undisturbed
+pub play_line-requires-clause-agrees : goal.play_line-requires-clause-agrees
+play_line-requires-clause-agrees g c =
+    subst (λ Q. Invariant Q c.lines.cluster.cluster) (sym (ap g.P.VertexProgram.program_of c.lines.invariant.program)) c.lines.invariant.agrees
 
 pub lines-preserved : goal.lines-preserved
 lines-preserved g c =
@@ -57,13 +57,14 @@ lines-preserved g c =
     let cut : drop i ls ≡ line ∷ rest = rw (add-one, drop-cons ls i line c.lines-test.true) (ap (λ x. x ∷ drop (suc i) ls) (sym c.line-item.is)) in
     let x = subst (λ Q. PlaysTo Q T traced now to b b' (start k (line ∷ rest)) (start d rest)) same (E.ok rest) in
     let y = PlaysTo-trans P T traced from now to a b b' (start c0 ls) (start k (line ∷ rest)) (start d rest) (subst (λ l. PlaysTo P T traced from now a b (start c0 ls) (start k l)) cut I.played) x in
+    let events-cut : event_lines (drop i ls) ≡ event_lines (line ∷ []) + event_lines rest = ap event_lines cut ∙ event_lines-cons line rest in
     let left : length ls - i ≡ (length ls - (i + 1)) + 1 = omega (arith, c.lines-test.true) in
     record {
       program = E.program ∙ I.program;
       places = E.places ∙ I.places;
-      undisturbed = subst (λ Q. RunsUndisturbed Q d) same E.undisturbed;
+      agrees = subst (λ Q. Invariant Q d) same E.agrees;
       room = E.room (length ls - (i + 1)) (subst (HasRoomFor k now) left I.room);
-      few = let f = I.few in let m = E.few in omega (arith, f, m);
+      few = let f = I.few in let m = E.few in let parts = events-cut in omega (arith, f, m, parts);
       begun = (x.added).begun ∙ I.begun;
       later = let l = I.later in let m = (x.added).later in omega (arith, l, m);
       played = y;
@@ -91,12 +92,13 @@ returns-in-Err g c =
     let E = c.in-Err.ensures in
     let same = ap g.P.VertexProgram.program_of I.program in
     let cut : drop i ls ≡ line ∷ rest = rw (add-one, drop-cons ls i line c.lines-test.true) (ap (λ x. x ∷ drop (suc i) ls) (sym c.line-item.is)) in
+    let events-cut : event_lines (drop i ls) ≡ event_lines (line ∷ []) + event_lines rest = ap event_lines cut ∙ event_lines-cons line rest in
     let x = subst (λ Q. PlaysPart Q T traced now to b b' (start k (line ∷ rest)) d) same (E.err rest) in
     record {
       ok = tt;
       err = PlaysTo-part P T traced from now to a b b' (start c0 ls) (start k (line ∷ rest)) d (subst (λ l. PlaysTo P T traced from now a b (start c0 ls) (start k l)) cut I.played) x;
-      few = let f = I.few in let m = E.few in let lt = c.lines-test.true in omega (arith, f, m, lt);
-      undisturbed = subst (λ Q. RunsUndisturbed Q d) same E.undisturbed;
+      few = let f = I.few in let m = E.few in let parts = events-cut in omega (arith, f, m, parts);
+      agrees = subst (λ Q. Invariant Q d) same E.agrees;
       program = E.program ∙ I.program;
       fault = λ f. let r = E.fault f in (r.0, Rose-later a.write_faults b.write_faults b'.write_faults I.later r.1);
     }

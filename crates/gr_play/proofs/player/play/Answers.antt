@@ -1,10 +1,11 @@
-use Rattle.std.proofs.Common.{◌∙◌, ◌+◌, sym, ap, subst, arith, length, take, zero-add}
+use Rattle.std.proofs.Common.{◌∙◌, ◌+◌, sym, ap, subst, arith, length, take, zero-add, le_refl}
+use Rattle.std.proofs.lemmas.List.{take_all}
 use Rattle.std.specs.Prelude.{IfSome}
 use Rattle.std.specs.Option.{option_copied}
 use Rattle.gr_batch.specs.Telling.{telling}
-use Rattle.gr_law_runs.specs.Undisturbed.{RunsUndisturbed}
 use Rattle.gr_play.specs.Playing.{start, Plays}
-use Rattle.gr_play.specs.Tracing.{text_of_steps, TracesPart, Adds}
+use Rattle.gr_play.specs.Inside.Adding.{Adds}
+use Rattle.gr_play.specs.Tracing.{text_of_steps, TracesPart}
 use Rattle.gr_play.proofs.Adding.{part-traced}
 use Rattle.gr_play.proofs.Positions.{Plays-nothing}
 use Rattle.gr_play.proofs.Reached.{PlaysTo-whole}
@@ -20,11 +21,10 @@ returns-in-Err-clause-steps g c =
 pub play_lines-requires-clause-room : goal.play_lines-requires-clause-room
 play_lines-requires-clause-room g c =
     let P = g.P.VertexProgram.program_of c.args.cluster.now.program in
-    let L = g.met.P.VertexProgram.laws c.args.cluster.now.program in
     let k = c.args.cluster.now.cluster in
     let R = c.requires in
-    HasRoomFor-start P L k R.undisturbed c.args.steps.now (length c.args.schedule.now) R.none_yet R.lines
-    (omega (arith, c.limit_of-limit.ensures, c.limit_of-limit.type_inv)) R.flight R.serial R.epoch R.commits
+    HasRoomFor-start P k c.limit_of-limit.ensures.agrees c.args.steps.now (length c.args.schedule.now) R.none_yet R.lines
+    (omega (arith, c.limit_of-limit.ensures.limit, c.limit_of-limit.type_inv)) R.flight R.serial R.epoch R.commits
 
 pub returns-in-Ok-clause-whole : goal.returns-in-Ok-clause-whole
 returns-in-Ok-clause-whole g c = λ _.
@@ -47,6 +47,20 @@ returns-in-Err-play_lines-clause-part g c = λ _.
     subst (λ n. IfSome (option_copied c.args.trace) (λ name. TracesPart (g.F.Files.seen c.args.files.now) b name (text_of_steps P T s n))) (sym counted)
     (part-traced c.args.trace (g.F.Files.seen c.args.files.now) m b E.part (text_of_steps P T s E.taken) begun is added)
 
-pub ending-requires : goal.ending-requires
-ending-requires g c =
-    subst (λ Q. RunsUndisturbed Q c.play_lines.new.cluster.cluster) (sym (ap g.P.VertexProgram.program_of c.in-Ok.ensures.program)) c.in-Ok.ensures.undisturbed
+-- where the list of lost vertices finds no memory the whole text is there
+pub returns-in-Ok-clause-part : goal.returns-in-Ok-clause-part
+returns-in-Ok-clause-part g c = λ _.
+    let P = g.P.VertexProgram.program_of c.args.cluster.now.program in
+    let T = telling g.P.Value.Datum.numbers_of g.P.Acc.Datum.numbers_of in
+    let s = start c.args.cluster.now.cluster c.args.schedule.now in
+    let m = g.F.Files.seen c.begin_trace.new.files in
+    let b = g.F.Files.seen c.play_lines.new.files in
+    let E = c.in-Ok.ensures.ok in
+    let text = text_of_steps P T s E.taken in
+    let counted = E.counted ∙ ap (λ n. n + E.taken) c.requires.none_yet ∙ zero-add E.taken in
+    let begun = rw c.in_default.is at c.begin_trace.ensures.ok in
+    let is = rw c.in_default.is at c.begin_trace.ensures.begun in
+    let whole = subst (Adds c.is_some.result m b) (sym (take_all (length text) text (le_refl _))) E.added in
+    let added = subst (λ t. Adds t m b (take (length text) text)) c.is_some.ensures whole in
+    subst (λ n. IfSome (option_copied c.args.trace) (λ name. TracesPart (g.F.Files.seen c.args.files.now) b name (text_of_steps P T s n))) (sym counted)
+    (part-traced c.args.trace (g.F.Files.seen c.args.files.now) m b (length text) text begun is added)

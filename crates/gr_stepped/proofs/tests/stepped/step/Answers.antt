@@ -1,13 +1,13 @@
 use Rattle.std.proofs.Common.{◌∙◌, ap}
 use Rattle.gr_report.specs.Goes.{goes_with}
-use Rattle.gr_stepped.proofs.Goes.{every-goes}
+use Rattle.gr_law_bounds.proofs.Outcomes.{step-goes}
 use Rattle.gr_stepped.proofs.Raised.{stepped-raised}
 use Rattle.gr_stepped.proofs.tests.stepped.step.Goals as goal
 
 pub push_outcome-requires : goal.push_outcome-requires
 push_outcome-requires g c = record {
   goes = ap (λ x. goes_with c.args.event x.1) c.in-Ok.ensures.ok
-      ∙ every-goes (g.P.VertexProgram.program_of c.args.cluster.now.program) c.args.cluster.now.cluster c.args.event;
+      ∙ step-goes (g.P.VertexProgram.program_of c.args.cluster.now.program) c.args.cluster.now.cluster c.args.event;
 }
 
 pub returns-in-Ok-clause-serial : goal.returns-in-Ok-clause-serial

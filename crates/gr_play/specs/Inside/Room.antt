@@ -1,7 +1,7 @@
 -- Room in the counts of a cluster for the steps to come.
-use Rattle.std.specs.Prelude.{ℕ, ◌+◌, ◌-◌, ◌^◌, ◌<◌, ◌≤◌, length}
+use Rattle.std.specs.Prelude.{ℕ, ◌+◌, ◌-◌, ◌*◌, ◌^◌, ◌<◌, ◌≤◌, length}
 use Rattle.gr_cluster.specs.Tables.{Cluster}
-use Rattle.gr_law_left.specs.ToGo.{to_go}
+use Rattle.gr_cluster.specs.ToGo.{most_added, to_go}
 
 -- room for one step
 pub record HasRoom {V A : Type 0} (c : Cluster V A) (taken : ℕ) : Type 0 where
@@ -14,8 +14,8 @@ pub record HasRoom {V A : Type 0} (c : Cluster V A) (taken : ℕ) : Type 0 where
 -- room for so many event lines, and for all canonical events between them
 pub record HasRoomFor {V A : Type 0} (c : Cluster V A) (taken lines : ℕ) : Type 0 where
   pub few : lines ≤ 200000
-  pub steps : taken + to_go c + lines < 2 ^ 63
-  pub serial : c.serial + to_go c + lines < 2 ^ 63
-  pub epoch : c.coordinator.epoch + to_go c + lines < 2 ^ 63
-  pub commits : c.coordinator.commits + to_go c + lines < 2 ^ 63
+  pub steps : taken + to_go c + most_added * lines < 2 ^ 63
+  pub serial : c.serial + to_go c + most_added * lines < 2 ^ 63
+  pub epoch : c.coordinator.epoch + to_go c + most_added * lines < 2 ^ 63
+  pub commits : c.coordinator.commits + to_go c + most_added * lines < 2 ^ 63
   pub flight : length c.flight + lines ≤ 400001

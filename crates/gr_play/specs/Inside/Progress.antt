@@ -11,7 +11,8 @@ use Rattle.gr_cluster.specs.Step.{step}
 use Rattle.gr_cluster.specs.Runs.{Position, is_commit, next_event, next_position, position_after, steps_of}
 use Rattle.gr_cluster.specs.TraceText.{trace_line}
 use Rattle.gr_play.specs.Playing.{Plays}
-use Rattle.gr_play.specs.Tracing.{text_of_steps, Adds}
+use Rattle.gr_play.specs.Inside.Adding.{Adds}
+use Rattle.gr_play.specs.Tracing.{text_of_steps}
 
 -- the line that canonical events are played for: through a commit, or to the end
 abbrev pub canonical_line : Bool → Line
