@@ -1,8 +1,14 @@
+pub mod Accepted
+pub mod AcceptedGraph
+pub mod AcceptedJob
 pub mod Behaviours
+pub mod Endings
 pub mod Lines
+pub mod Numbers
 pub mod Outcomes
 pub mod Plans
 pub mod Playings
 pub mod Quiet
 pub mod Readings
 pub mod Runs
+pub mod Workloads

@@ -1,8 +1,7 @@
 -- What a command comes to where what was read is refused.
 use Rattle.std.proofs.Common.{◌≡◌, ◌⊎◌, ℕ, List, Option, Some, None, Result, Ok, Err, refl, sym, subst, inl, inr}
 use Rattle.std.specs.Prelude.{IfSome}
-use Rattle.std.specs.List.{list_all}
-use Rattle.gr_outside.specs.Files.{FilesSeen, FilesTold}
+use Rattle.gr_outside.specs.Files.{FilesSeen, FilesTold, bytes_of}
 use Rattle.gr_outside.specs.Sink.{SinkSeen}
 use Rattle.gr_edges.specs.declared.fault.GraphFault.{GraphFault}
 use Rattle.gr_edges.specs.declared.fault.GraphFault.TheVariants as graph_fault
@@ -13,17 +12,14 @@ use Rattle.gr_job.specs.Job.{JobValues, job_of}
 use Rattle.gr_sched.specs.declared.fault.SchedFault.{SchedFault}
 use Rattle.gr_sched.specs.declared.fault.SchedFault.TheVariants as sched_fault
 use Rattle.gr_sched.specs.declared.line.LineFound.{LineFound}
-use Rattle.gr_sched.specs.declared.event.Line.{Line}
 use Rattle.gr_sched.specs.Reading as sched
-use Rattle.gr_law_runs.specs.Undisturbed.{is_plain_line}
-use Rattle.gr_lists.proofs.Tests.{by_test}
 use Rattle.imitate.specs.declared.refusal.Refusal.{Refusal}
 use Rattle.imitate.specs.declared.refusal.Refusal.TheVariants as refusal
 use Rattle.imitate.specs.Words.{FileNames, Asked}
 use Rattle.imitate.specs.Refusals.{graph_refusal, job_refusal, schedule_refusal}
-use Rattle.imitate.specs.Reading.{Task, after_graph, after_job, task_of, if_built, after_schedule, after_task, plan_of, result_or_refusal, reply_of}
-use Rattle.imitate.specs.Contents.{content, KeepsFiles}
-use Rattle.imitate.specs.Outcome.{reply_to, IsRefused, Fails}
+use Rattle.imitate.specs.Reading.{Task, after_graph, after_job, task_of, after_schedule, after_task, plan_of, result_or_refusal, reply_of}
+use Rattle.imitate.specs.Contents.{KeepsFiles}
+use Rattle.imitate.specs.Outcome.{of_two, reply_to, IsRefused, Fails}
 use Rattle.imitate.proofs.Quiet.{some-both}
 
 -- a refusal of what was read
@@ -32,7 +28,6 @@ IsOfReading refusal.OutOfMemory = Unit {0}
 IsOfReading (refusal.Graph fault) = Unit {0}
 IsOfReading (refusal.Job fault) = Unit {0}
 IsOfReading (refusal.Schedule fault) = Unit {0}
-IsOfReading refusal.NotBuilt = Unit {0}
 IsOfReading other = ⊥
 
 graph-read : (fault : GraphFault) → IsOfReading (graph_refusal fault)
@@ -64,12 +59,9 @@ task-read : (graph job : List ℕ) → IfRefused (task_of graph job)
 unfolding task_of
 task-read graph job = after_job-read graph (job_of job)
 
-if_built-read : (task : Task) (lines : List Line) → IfRefused (if_built task lines)
-if_built-read task lines = by_test (list_all is_plain_line lines) (λ b. rw b tt) (λ b. rw b tt)
-
 after_schedule-read : (task : Task) (found : List LineFound) (o : Option SchedFault) → IfRefused (after_schedule task found o)
 after_schedule-read task found (Some fault) = schedule-read fault
-after_schedule-read task found None = if_built-read task (sched.schedule_of found)
+after_schedule-read task found None = tt
 
 after_task-read : (schedule : List ℕ) (r : Result Task Refusal) → IfRefused r → IfRefused (after_task schedule r)
 after_task-read schedule (Err why) h = h
@@ -98,18 +90,22 @@ plan-of_reading graph job schedule why e = is_read (plan_of graph job schedule) 
 
 -- the bytes that were loaded are those that the answers are to
 pub reply-told : (o : Option FilesTold) (names : FileNames) (graph job : List ℕ)
-    → IfSome o (λ t. content t names.graph ≡ graph) → IfSome o (λ t. content t names.job ≡ job) → IfSome o (λ t. reply_to t names ≡ reply_of graph job)
+    → IfSome o (λ t. bytes_of t.files names.graph ≡ Some graph) → IfSome o (λ t. bytes_of t.files names.job ≡ Some job)
+    → IfSome o (λ t. reply_to t names ≡ Some (reply_of graph job))
 reply-told o names graph job g j =
-    some-both o (λ t. content t names.graph ≡ graph) (λ t. content t names.job ≡ job) (λ t. reply_to t names ≡ reply_of graph job) g j (λ t eg ej i. reply_of (eg i) (ej i))
+    some-both o (λ t. bytes_of t.files names.graph ≡ Some graph) (λ t. bytes_of t.files names.job ≡ Some job) (λ t. reply_to t names ≡ Some (reply_of graph job)) g j
+    (λ t eg ej i. of_two reply_of (eg i) (ej i))
 
 module _ (files files' : FilesSeen) (out : SinkSeen) (kept : KeepsFiles files files') where
   -- memory ran out
   at-memory : (asked : Asked) → Fails files files' out out asked refusal.OutOfMemory
   at-memory (Asked.Plain names) = record { cause = tt; output = inl refl; left = kept }
   at-memory (Asked.Run names) = record { cause = tt; output = inl refl; left = inl kept }
+  at-memory (Asked.Load seed size) = record { cause = tt; output = inl refl; left = kept }
 
-  -- what was read is refused
+  -- what was read is refused; `load` reads nothing
   abbrev IsRead : Asked → Refusal → Type 0
+  IsRead (Asked.Load seed size) why = ⊥
   IsRead asked why = IsOfReading why × IfSome files.told (λ t. IsRefused t asked why)
 
   read-fails : (asked : Asked) (why : Refusal) → IsRead asked why → Fails files files' out out asked why
@@ -117,14 +113,13 @@ module _ (files files' : FilesSeen) (out : SinkSeen) (kept : KeepsFiles files fi
   read-fails (Asked.Plain names) (refusal.Graph fault) h = record { cause = h.1; output = refl; left = kept }
   read-fails (Asked.Plain names) (refusal.Job fault) h = record { cause = h.1; output = refl; left = kept }
   read-fails (Asked.Plain names) (refusal.Schedule fault) h = record { cause = h.1; output = refl; left = kept }
-  read-fails (Asked.Plain names) refusal.NotBuilt h = record { cause = h.1; output = refl; left = kept }
   read-fails (Asked.Plain names) other h = absurd h.0
   read-fails (Asked.Run names) refusal.OutOfMemory h = at-memory (Asked.Run names)
   read-fails (Asked.Run names) (refusal.Graph fault) h = record { cause = h.1; output = refl; left = kept }
   read-fails (Asked.Run names) (refusal.Job fault) h = record { cause = h.1; output = refl; left = kept }
   read-fails (Asked.Run names) (refusal.Schedule fault) h = record { cause = h.1; output = refl; left = kept }
-  read-fails (Asked.Run names) refusal.NotBuilt h = record { cause = h.1; output = refl; left = kept }
   read-fails (Asked.Run names) other h = absurd h.0
+  read-fails (Asked.Load seed size) why h = absurd h
 
   memory-fails : (asked : Asked) (why : Refusal) → why ≡ refusal.OutOfMemory → Fails files files' out out asked why
   memory-fails asked why e = subst (λ (w : Refusal). Fails files files' out out asked w) (sym e) (at-memory asked)

@@ -56,57 +56,6 @@ module _ {V A : Type 0} (P : Program V A) (s : Setting) (es : List Edge) (vs : L
   pub loaded-fresh : {R : Type 0} (p : R) (t : Tables R V A) → t ≡ record { program = p; cluster = load P s es vs } → IsFresh t.cluster s.places
   loaded-fresh {R} p t is = subst (λ (u : Tables R V A). IsFresh u.cluster s.places) (sym is) load-fresh
 
--- a job and a graph are within the ranges that runs are about
-pub setting-is : (job : Job) → job.theta < 2 ^ 32 → IsSetting (setting_of job)
-setting-is job small = record {
-  some_place = job.some_places;
-  few_places = job.most_places;
-  spares = job.most_spares;
-  losses = job.most_losses;
-  theta = small;
-  some_round = job.some_rounds;
-  few_rounds = job.most_rounds;
-}
-
-pub graph-is : (graph : Graph) → Each (λ v. v < 2 ^ 32) (ids graph.vertices) → length graph.edges ≤ 4194304 → length graph.vertices ≤ 1048576
-    → IsGraph graph.edges (ids graph.vertices)
-graph-is graph fit edges vertices =
-    let es = graph.edges in
-    let vs = ids graph.vertices in
-    record {
-      rise = map-rises id_of (λ v. v) graph.vertices graph.rise;
-      ids = fit;
-      sources = recursion_from_All (λ (e : Edge). IsTrue (has vs e.src)) es (λ k d lt. (graph.ends k d lt).src);
-      targets = recursion_from_All (λ (e : Edge). IsTrue (has vs e.dst)) es (λ k d lt. (graph.ends k d lt).dst);
-      few_vertices = rw (length-map graph.vertices id_of) vertices;
-      few_edges = edges;
-    }
-
--- only the mode Done is told as done
-module _ {V A : Type 0} (c : Cluster V A) where
-  pub ended-done : (m : Mode) → ended_by (cluster.ending_by c m) ≡ ended.Done → m ≡ mode.Done
-  ended-done mode.Done e = refl
-  ended-done mode.Lost e = absurd (cc)
-  ended-done mode.Running e = absurd (cc)
-  ended-done mode.Failed e = absurd (cc)
-  ended-done mode.Recovering e = absurd (cc)
-  ended-done mode.Repairing e = absurd (cc)
-
-module _ {V A : Type 0} (P : Program V A) (L : ProgramLaws P) (s : Setting) (es : List Edge) (vs : List ℕ) (IS : IsSetting s) (IG : IsGraph es vs) (ls : List Line)
-    (plain : All (λ l. IsTrue (is_plain_line l)) ls) (text_of : V → List ℕ) where
-  -- the text of a run that is done is the result text
-  pub done-text : (steps : ℕ) (c : Cluster V A) (told : Option cluster.Ending) (end : Ended) (text : List ℕ) → Plays P (start (load P s es vs) ls) steps c
-      → IsTold text_of c told end text → end ≡ ended.Done → text ≡ result_text P text_of es vs s.limit
-  done-text steps c told end text plays is done =
-      let m : c.coordinator.mode ≡ mode.Done = ended-done c c.coordinator.mode (is.ended ∙ done) in
-      let last = (position_after P steps (start (load P s es vs) ls)).cluster in
-      let over : last.coordinator.mode ≡ mode.Done = ap (λ (k : Cluster V A). k.coordinator.mode) plays.cluster ∙ m in
-      let result = schedule-result P L s es vs IS IG ls (recursion_from_All (λ (l : Line). IsTrue (is_plain_line l)) ls plain) steps over in
-      is.text_is
-      ∙ ap (λ (k : Mode). cluster.ending_text text_of c (cluster.ending_by c k)) m
-      ∙ ap (λ (k : Cluster V A). done_text text_of k.coordinator.round (cluster.results_of k)) (sym plays.cluster)
-      ∙ (λ i. done_text text_of (result.round i) (result.values i))
-
 module _ (files files' : FilesSeen) (trace : List ℕ) (c : Chosen) (s : Position c.Value c.Sum) (steps : ℕ)
     (begun : IfSome files'.told (λ u. is_some u.begun ≡ files'.is_begun)) where
   part-traced : (told : Option cluster.Ending) → (IsSome told → Traces files files' trace (trace_after c s steps)) → (told ≡ None → TracesPart files files' trace (trace_after c s steps))

@@ -1,7 +1,5 @@
 -- What is read comes to, once the job, the graph and then the schedule is read.
-use Rattle.std.proofs.Common.{◌≡◌, ◌≢◌, ◌⊎◌, ◌∙◌, ℕ, List, Some, None, refl, sym, ap, inl, inr}
-use Rattle.std.specs.Prelude.{Ok, Err, true, false}
-use Rattle.std.specs.List.{list_all}
+use Rattle.std.proofs.Common.{◌≡◌, ◌≢◌, ◌⊎◌, ◌∙◌, ℕ, List, Option, Some, None, Result, Ok, Err, refl, sym, ap, inl, inr}
 use Rattle.gr_base.specs.declared.records.Edge.{Edge}
 use Rattle.gr_edges.specs.declared.fault.GraphFault.{GraphFault}
 use Rattle.gr_edges.specs.declared.fault.GraphFault.TheVariants as graph_fault
@@ -14,12 +12,13 @@ use Rattle.gr_job.specs.Job.{JobValues, job_of}
 use Rattle.gr_sched.specs.declared.fault.SchedFault.{SchedFault}
 use Rattle.gr_sched.specs.declared.fault.SchedFault.TheVariants as sched_fault
 use Rattle.gr_sched.specs.declared.event.Line.{Line}
+use Rattle.gr_sched.specs.declared.line.LineFound.{LineFound}
 use Rattle.gr_sched.specs.Reading as sched
-use Rattle.gr_law_runs.specs.Undisturbed.{is_plain_line}
 use Rattle.imitate.specs.declared.refusal.Refusal.{Refusal}
 use Rattle.imitate.specs.declared.refusal.Refusal.TheVariants as refusal
 use Rattle.imitate.specs.Refusals.{graph_refusal, job_refusal, schedule_refusal}
-use Rattle.imitate.specs.Reading.{Task, after_graph, after_job, task_of, if_built, after_schedule, after_task, plan_of, result_of, result_or_refusal, reply_of}
+use Rattle.imitate.specs.Outcome.{of_two, of_three}
+use Rattle.imitate.specs.Reading.{Task, Plan, after_graph, after_job, task_of, after_schedule, after_task, plan_of, result_of, result_or_refusal, reply_of}
 
 pub task-job_refused : (graph job : List ℕ) (fault : JobFault) → (fault ≢ job_fault.OutOfMemory → job_of job ≡ Err fault)
     → (job_refusal fault ≡ refusal.OutOfMemory) ⊎ (task_of graph job ≡ Err (job_refusal fault))
@@ -71,13 +70,30 @@ module _ (graph job schedule : List ℕ) (task : Task) (is : task_of graph job �
   ]
 
   module _ (lines : List Line) (none : sched.first_fault (sched.lines_of task.job.places schedule) ≡ None) (said : lines ≡ sched.schedule_of (sched.lines_of task.job.places schedule)) where
-    plan-said : plan_of graph job schedule ≡ if_built task lines
+    pub plan-read : plan_of graph job schedule ≡ Ok (record { task = task; lines = lines })
     unfolding plan_of
-    plan-said =
-        ap (after_task schedule) is ∙ ap (after_schedule task (sched.lines_of task.job.places schedule)) none ∙ ap (if_built task) (sym said)
+    plan-read =
+        ap (after_task schedule) is
+        ∙ ap (after_schedule task (sched.lines_of task.job.places schedule)) none ∙ ap (λ (ls : List Line). Ok (record { task = task; lines = ls })) (sym said)
 
-    pub plan-read : list_all is_plain_line lines ≡ true → plan_of graph job schedule ≡ Ok (record { task = task; lines = lines })
-    plan-read built = plan-said ∙ rw built refl
+scheduled-task : (task : Task) (found : List LineFound) (o : Option SchedFault) (plan : Plan) → after_schedule task found o ≡ Ok plan → task ≡ plan.task
+scheduled-task task found (Some fault) plan e = absurd (cc)
+scheduled-task task found None plan e = let same : record { task = task; lines = sched.schedule_of found } ≡ plan = cc in ap (λ (p : Plan). p.task) same
 
-    pub plan-not_built : list_all is_plain_line lines ≡ false → plan_of graph job schedule ≡ Err refusal.NotBuilt
-    plan-not_built built = plan-said ∙ rw built refl
+planned-reply : (schedule : List ℕ) (r : Result Task Refusal) (plan : Plan) → after_task schedule r ≡ Ok plan → result_or_refusal r ≡ Ok (result_of plan.task)
+planned-reply schedule (Err why) plan e = absurd (cc)
+planned-reply schedule (Ok task) plan e =
+    let found = sched.lines_of task.job.places schedule in
+    ap (λ (k : Task). Ok (result_of k)) (scheduled-task task found (sched.first_fault found) plan e)
+
+-- where a schedule is accepted, so are the graph and the job
+plan-reply : (graph job schedule : List ℕ) (plan : Plan) → plan_of graph job schedule ≡ Ok plan → reply_of graph job ≡ Ok (result_of plan.task)
+unfolding plan_of reply_of
+plan-reply graph job schedule plan e = planned-reply schedule (task_of graph job) plan e
+
+-- so are they of files that are there
+pub plan_to-reply : (graph job schedule : Option (List ℕ)) (plan : Plan) → of_three plan_of graph job schedule ≡ Some (Ok plan) → of_two reply_of graph job ≡ Some (Ok (result_of plan.task))
+plan_to-reply (Some graph) (Some job) (Some schedule) plan e = let e' : plan_of graph job schedule ≡ Ok plan = cc in ap Some (plan-reply graph job schedule plan e')
+plan_to-reply None job schedule plan e = absurd (cc)
+plan_to-reply (Some graph) None schedule plan e = absurd (cc)
+plan_to-reply (Some graph) (Some job) None plan e = absurd (cc)

@@ -12,7 +12,8 @@ use Rattle.imitate.specs.Words.{FileNames, Asked, nobody, names_in, asked_of}
 use Rattle.imitate.specs.Refusals.{line_of, status_of}
 use Rattle.imitate.specs.Running.{end_status}
 use Rattle.imitate.specs.Contents.{KeepsFiles, KeepsAllBut, GainsPart}
-use Rattle.imitate.specs.Outcome.{IsRefused, IsEnding, PlaysFinish, Shows, LeavesEnd, Fails}
+use Rattle.imitate.specs.Outcome.{IsRefused, IsEnding, PlaysFinish, Prints, LeavesEnd, Fails}
+use Rattle.imitate.specs.Losses.{PrintsTheLost, PrintsTheRounds, BearsItsLosses, HasFewCrashes}
 
 -- the names that words give, or none
 abbrev pub names_of : List (List ℕ) → FileNames
@@ -37,15 +38,29 @@ abbrev pub FailsAt : FilesSeen → FilesSeen → SinkSeen → SinkSeen → Optio
 FailsAt files files' out out' None why = (why ≡ refusal.Usage) × (out' ≡ out) × KeepsFiles files files'
 FailsAt files files' out out' (Some asked) why = Fails files files' out out' asked why
 
+-- generated input is asked for
+abbrev pub IsLoad : Asked → Type 0
+IsLoad (Asked.Load seed size) = Unit {0}
+IsLoad other = ⊥
+
 module _ (files files' : FilesSeen) (out out' err err' : SinkSeen) (words : List (List ℕ)) (code : ℕ) where
   -- How it ended.
   pub record IsAnswered : Type 0 where
-    -- 0: the output gained the result text of the synchronous rounds of the graph that is not cut, and nothing else
-    pub done : code ≡ 0 → Shows files out out' (names_of words)
+    -- 0: the output gained the result text of the synchronous rounds of the graph that is not cut, and nothing else, whatever
+    -- places crashed; for `load` the line with the last of those rounds and their sum
+    pub done : code ≡ 0 → IfSome (asked_of words) (Prints files out out')
+    -- 8: it gained exactly the list of the vertices of which every copy was at a dead place, and there is one
+    pub lost : code ≡ 8 → IfSome files.told (PrintsTheLost out out' (names_of words))
+    -- 9: it gained the number of the committed rounds
+    pub early : code ≡ 9 → IfSome files.told (PrintsTheRounds out out' (names_of words))
     -- 0, 8 and 9: the run of the files ends so, its text is on the output, and its trace in the trace file
     pub ended : (end : Ended) → code ≡ end_status end → IfSome (asked_of words) (λ asked. LeavesEnd files files' out out' asked end)
     -- and nothing is said
     pub quiet : (end : Ended) → code ≡ end_status end → err' ≡ err
+    -- a run whose crashes are never more than the copies bear loses no vertex
+    pub budget : IfSome (asked_of words) (λ asked. IfSome files.told (λ t. BearsItsLosses t asked → code ≢ 8))
+    -- nor does one whose schedule has few crash lines
+    pub few_crashes : IfSome (asked_of words) (λ asked. IfSome files.told (λ t. HasFewCrashes t asked → code ≢ 8))
     -- a run whose schedule has the last line `finish` never ends early
     pub finish : IfSome (asked_of words) (λ asked. IfSome files.told (λ t. PlaysFinish t asked → code ≢ 9))
     -- where memory, the files and the output served, the status is the one that the files have
@@ -62,6 +77,8 @@ module _ (files files' : FilesSeen) (out out' err err' : SinkSeen) (words : List
         → IfSome (asked_of words) (λ asked. IfSome files.told (λ t. (why : Refusal) × IsRefused t asked why × (code ≡ status_of why)))
     pub no_trace : code ≡ 10 → Rose files.write_faults files'.write_faults
     pub no_output : code ≡ 11 → Rose out.faults out'.faults
+    -- `load` gives no status but 0, 1 and 11
+    pub load : IfSome (asked_of words) (λ asked. IsLoad asked → IsTrue (has (0 ∷ 1 ∷ 11 ∷ []) code))
 
   -- A refusal, what was done till then, and what is said of it: its line, wholly but where the messages failed in this call.
   -- Where memory runs out while it is said the status is 1.

@@ -1,10 +1,13 @@
 pub mod Behaviour
 pub mod Chosen
 pub mod Contents
+pub mod Headline
 pub mod Loading
+pub mod Losses
 pub mod Outcome
 pub mod Playing
 pub mod Reading
 pub mod Refusals
 pub mod Running
 pub mod Words
+pub mod Workload

@@ -1,12 +1,12 @@
 -- The loading of an input.
 use Rattle.std.specs.Prelude.{◌≡◌, ◌<◌, ◌≤◌, ℕ, List, length, Some, Result, IfOk, IfErr, OnOk, IfSome}
 use Rattle.gr_outside.specs.Causes.{Rose}
-use Rattle.gr_outside.specs.Files.{FilesSeen, longest}
+use Rattle.gr_outside.specs.Files.{FilesSeen, longest, bytes_of}
 use Rattle.imitate.specs.declared.refusal.Input.{Input}
 use Rattle.imitate.specs.declared.refusal.Refusal.{Refusal}
 use Rattle.imitate.specs.declared.refusal.Refusal.TheVariants as refusal
 use Rattle.imitate.specs.Words.{FileNames}
-use Rattle.imitate.specs.Refusals.{name_of}
+use Rattle.imitate.specs.Refusals.{name_of, IsOfInput}
 use Rattle.imitate.specs.Contents.{KeepsFiles, content}
 
 -- why an input was not loaded: memory ran out; a load failed in this call, where told it is the last that did; a load took
@@ -26,10 +26,11 @@ pub record IsQuiet (before after : FilesSeen) : Type 0 where
   pub write_faults : after.write_faults ≡ before.write_faults
   pub told : IfSome before.told (λ t. after.told ≡ Some t)
 
--- one load: the whole file, of no more bytes than one may have, or a cause
+-- one load: the whole file, of no more bytes than one may have, or a cause, which is of this input
 pub record LoadsInput {A : Type 0} (bytes_in : A → List ℕ) (before after : FilesSeen) (names : FileNames) (input : Input) (result : Result A Refusal) : Type 0 where
   pub small : IfOk result (λ v. length (bytes_in v) ≤ longest)
-  pub whole : IfOk result (λ v. IfSome before.told (λ t. content t (name_of names input) ≡ bytes_in v))
+  pub whole : IfOk result (λ v. IfSome before.told (λ t. bytes_of t.files (name_of names input) ≡ Some (bytes_in v)))
   pub quiet : OnOk result (IsQuiet before after)
   pub cause : IfErr result (IsLoadCause before after names)
+  pub about : IfErr result (IsOfInput input)
   pub kept : KeepsFiles before after

@@ -1,6 +1,6 @@
 -- What the bytes of a graph, a job and a schedule say, or why one of them is refused.
-use Rattle.std.specs.Prelude.{ℕ, ◌<◌, ◌≤◌, ◌^◌, IsTrue, List, length, Option, Some, None, Result, Ok, Err, if◌then◌else◌}
-use Rattle.std.specs.List.{All, AllByRecursion as Each, list_all}
+use Rattle.std.specs.Prelude.{ℕ, ◌<◌, ◌≤◌, ◌^◌, IsTrue, List, length, Option, Some, None, Result, Ok, Err}
+use Rattle.std.specs.List.{All, AllByRecursion as Each}
 use Rattle.gr_base.specs.declared.records.Edge.{Edge}
 use Rattle.gr_edges.specs.declared.fault.GraphFault.{GraphFault}
 use Rattle.gr_edges.specs.Reading as edges
@@ -11,11 +11,9 @@ use Rattle.gr_sched.specs.declared.fault.SchedFault.{SchedFault}
 use Rattle.gr_sched.specs.declared.line.LineFound.{LineFound}
 use Rattle.gr_sched.specs.declared.event.Line.{Line}
 use Rattle.gr_sched.specs.Reading as sched
-use Rattle.gr_law_runs.specs.Undisturbed.{is_plain_line}
 use Rattle.imitate.specs.declared.reading.Work.{Work}
 use Rattle.imitate.specs.declared.reading.Accepted.{Accepted}
 use Rattle.imitate.specs.declared.refusal.Refusal.{Refusal}
-use Rattle.imitate.specs.declared.refusal.Refusal.TheVariants as refusal
 use Rattle.imitate.specs.Refusals.{graph_refusal, job_refusal, schedule_refusal}
 use Rattle.imitate.specs.Chosen.{chosen_text}
 
@@ -46,13 +44,9 @@ after_job graph (Ok job) = after_graph job graph (edges.first_fault job.undirect
 unfoldable pub task_of : List ℕ → List ℕ → Result Task Refusal
 task_of graph job = after_job graph (job_of job)
 
--- lines that crash, recover, repair or discard are not built
-abbrev pub if_built : Task → List Line → Result Plan Refusal
-if_built task lines = if list_all is_plain_line lines then Ok (record { task = task; lines = lines }) else Err refusal.NotBuilt
-
 abbrev pub after_schedule : Task → List LineFound → Option SchedFault → Result Plan Refusal
 after_schedule task found (Some fault) = Err (schedule_refusal fault)
-after_schedule task found None = if_built task (sched.schedule_of found)
+after_schedule task found None = Ok (record { task = task; lines = sched.schedule_of found })
 
 -- the schedule is read last, for the places of the job
 abbrev pub after_task : List ℕ → Result Task Refusal → Result Plan Refusal
@@ -82,12 +76,10 @@ task_in work = record { job = values_of work.job; edges = work.graph.edges; vert
 abbrev pub plan_in : Accepted → Plan
 plan_in a = record { task = task_in a.work; lines = a.lines }
 
--- what a cluster needs of what was read: ids of 32 bits, graph and schedule within their limits, and lines that it plays,
--- for its places
+-- what a cluster needs of what was read: ids of 32 bits, graph and schedule within their limits, and lines for its places
 pub record IsPlayable (a : Accepted) : Type 0 where
   pub ids_fit : Each (λ v. v < 2 ^ 32) (ids a.work.graph.vertices)
   pub few_edges : length a.work.graph.edges ≤ edges.max_edges
   pub few_vertices : length a.work.graph.vertices ≤ edges.max_vertices
   pub few_lines : length a.lines ≤ sched.max_events
-  pub plain : All (λ l. IsTrue (is_plain_line l)) a.lines
   pub placed : All (λ l. IsTrue (sched.are_below a.work.job.places (sched.places_of l))) a.lines

@@ -1,5 +1,5 @@
 -- Why a command line is refused: the status and the text of each cause.
-use Rattle.std.specs.Prelude.{ℕ, List, ◌++◌, codes, decimal}
+use Rattle.std.specs.Prelude.{ℕ, ◌≡◌, List, ◌++◌, codes, decimal}
 use Rattle.gr_edges.specs.declared.fault.GraphFault.{GraphFault}
 use Rattle.gr_edges.specs.declared.fault.GraphFault.TheVariants as graph
 use Rattle.gr_job.specs.declared.fault.JobFault.{JobFault}
@@ -10,7 +10,7 @@ use Rattle.imitate.specs.declared.refusal.Input.{Input}
 use Rattle.imitate.specs.declared.refusal.Input.TheVariants as input
 use Rattle.imitate.specs.declared.refusal.Refusal.{Refusal}
 use Rattle.imitate.specs.declared.refusal.Refusal.TheVariants as refusal
-use Rattle.imitate.specs.Words.{FileNames}
+use Rattle.imitate.specs.Words.{FileNames, Asked}
 
 -- how a fault of the graph, of the job or of the schedule is refused
 abbrev pub graph_refusal : GraphFault → Refusal
@@ -33,7 +33,6 @@ status_of (refusal.TooLong input) = 4
 status_of (refusal.Graph fault) = 5
 status_of (refusal.Job fault) = 6
 status_of (refusal.Schedule fault) = 7
-status_of refusal.NotBuilt = 7
 status_of refusal.Trace = 10
 status_of refusal.Output = 11
 
@@ -73,6 +72,18 @@ schedule_text (schedule.PlaceOutOfRange line) = schedule_line line (codes "place
 schedule_text (schedule.TooManyEvents line) = schedule_line line (codes "too many events")
 schedule_text schedule.OutOfMemory = memory_text
 
+-- whether what is asked for names this input; `plain` names no schedule, and `load` no input
+abbrev pub NamesInput : Asked → Input → Type 0
+NamesInput (Asked.Plain names) input.Schedule = ⊥
+NamesInput (Asked.Load seed size) input = ⊥
+NamesInput asked other = Unit {0}
+
+-- where a refusal is of an input that was not loaded, it is of this one
+abbrev pub IsOfInput : Input → Refusal → Type 0
+IsOfInput input (refusal.Unreadable which) = which ≡ input
+IsOfInput input (refusal.TooLong which) = which ≡ input
+IsOfInput input other = Unit {0}
+
 -- the name of an input
 abbrev pub name_of : FileNames → Input → List ℕ
 name_of names input.Graph = names.graph
@@ -87,7 +98,6 @@ text_of names (refusal.TooLong input) = codes "too long: " ++ name_of names inpu
 text_of names (refusal.Graph fault) = graph_text fault
 text_of names (refusal.Job fault) = job_text fault
 text_of names (refusal.Schedule fault) = schedule_text fault
-text_of names refusal.NotBuilt = codes "schedule: not built"
 text_of names refusal.Trace = codes "cannot write " ++ names.trace
 text_of names refusal.Output = codes "cannot write output"
 

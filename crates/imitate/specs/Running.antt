@@ -1,6 +1,7 @@
 -- A run of a program on a cluster: where it stands after some steps, its trace, how it ends, and what it prints.
 use Rattle.std.specs.Prelude.{ℕ, List}
 use Rattle.gr_job.specs.Job.{JobValues}
+use Rattle.gr_cluster.specs.Tables.{Cluster}
 use Rattle.gr_cluster.specs.Load.{Setting, load}
 use Rattle.gr_cluster.specs.Runs.{Position, position_after, steps_of, IsWhole}
 use Rattle.gr_cluster.specs.Ending as cluster
@@ -50,6 +51,10 @@ module _ (plan : Plan) where
   -- it has no further step after so many
   abbrev pub IsWholeAfter : ℕ → Type 0
   IsWholeAfter steps = IsWhole (stands_after program_in begin steps)
+
+  -- the cluster that its first steps lead to
+  abbrev pub cluster_after : ℕ → Cluster program_in.Value program_in.Sum
+  cluster_after steps = (stands_after program_in begin steps).cluster
 
   -- what its first steps trace; how it ends after them, and what it then prints
   abbrev pub run_trace : ℕ → List ℕ

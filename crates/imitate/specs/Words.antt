@@ -1,7 +1,10 @@
 -- The words of a command line.
-use Rattle.std.specs.Prelude.{ℕ, List, [], ◌∷◌, Option, Some, None, option_map, codes, if◌then◌else◌}
-use Rattle.std.specs.Option.{option_or}
+use Rattle.std.specs.Prelude.{ℕ, ◌≤◌, ◌&&◌, nat_lt, nat_le, List, [], ◌∷◌, length, Option, Some, None, option_map, codes, if◌then◌else◌}
+use Rattle.std.specs.List.{list_all}
+use Rattle.std.specs.Option.{option_or, option_zip}
+use Rattle.std.specs.Char.{is_ascii_digit}
 use Rattle.std.specs.Str.{bytes_eq}
+use Rattle.std.specs.Str.Parse.{digits_value}
 use Rattle.imitate.specs.declared.command.Names.{Names}
 use Rattle.imitate.specs.declared.command.Command.{Command}
 use Rattle.imitate.specs.declared.command.Command.TheVariants as command
@@ -17,10 +20,12 @@ pub record FileNames : Type 0 where
 abbrev pub nobody : FileNames
 nobody = record { graph = []; job = []; schedule = []; trace = [] }
 
--- what words ask for: the rounds of the graph that is not cut, or a run of the cluster
+-- what words ask for: the rounds of the graph that is not cut, a run of the cluster, or one of generated input, by a seed and
+-- a size
 pub data Asked : Type 0 where
   Plain : FileNames → Asked
   Run : FileNames → Asked
+  Load : ℕ → ℕ → Asked
 
 -- the names of `plain GRAPH JOB`
 abbrev pub plain_of : List (List ℕ) → Option FileNames
@@ -33,14 +38,30 @@ run_of (word ∷ graph ∷ job ∷ schedule ∷ trace ∷ []) =
     if bytes_eq word (codes "run") then Some (record { graph = graph; job = job; schedule = schedule; trace = trace }) else None
 run_of words = None
 
+-- the number of a word of digits, from `least` to `most`
+abbrev pub number_in : ℕ → ℕ → List ℕ → Option ℕ
+number_in least most word =
+    let n = digits_value 10 word in
+    if nat_lt 0 (length word) && (list_all is_ascii_digit word && (nat_le least n && nat_le n most)) then Some n else None
+
+-- the numbers of `load SEED SIZE`
+abbrev pub max_size : ℕ
+max_size = 100000
+
+abbrev pub load_of : List (List ℕ) → Option (ℕ × ℕ)
+load_of (word ∷ seed ∷ size ∷ []) = if bytes_eq word (codes "load") then option_zip (number_in 0 4294967295 seed) (number_in 1 max_size size) else None
+load_of words = None
+
 -- what words ask for, where they are of one of the forms
 unfoldable pub asked_of : List (List ℕ) → Option Asked
-asked_of words = option_or (option_map Asked.Plain (plain_of words)) (option_map Asked.Run (run_of words))
+asked_of words =
+    option_or (option_map Asked.Plain (plain_of words)) (option_or (option_map Asked.Run (run_of words)) (option_map (λ n. Asked.Load n.0 n.1) (load_of words)))
 
--- the names that are asked for
+-- the names that are asked for; `load` names no file
 abbrev pub names_in : Asked → FileNames
 names_in (Asked.Plain names) = names
 names_in (Asked.Run names) = names
+names_in (Asked.Load seed size) = nobody
 
 -- the names and the request that a command holds
 abbrev pub named : Names → FileNames
@@ -49,3 +70,9 @@ named n = record { graph = n.graph.now; job = n.job.now; schedule = n.schedule.n
 abbrev pub asked_by : Command → Asked
 asked_by (command.Plain n) = Asked.Plain (named n)
 asked_by (command.Run n) = Asked.Run (named n)
+asked_by (command.Load seed size) = Asked.Load seed size
+
+-- a size that is asked for is within its range
+abbrev pub IsInRange : Command → Type 0
+IsInRange (command.Load seed size) = size ≤ max_size
+IsInRange other = Unit {0}

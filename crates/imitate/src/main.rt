@@ -6,6 +6,7 @@ mod chosen;
 mod command;
 mod ended;
 mod inputs;
+mod laws;
 mod load;
 mod plain;
 mod played;
@@ -15,6 +16,7 @@ mod reply;
 mod run;
 mod told;
 mod top;
+mod workload;
 
 use crate::top::imitate;
 use gr_outside::{RealFiles, RealSink};

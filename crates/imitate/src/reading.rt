@@ -1,14 +1,13 @@
 ghost use Rattle.std.specs.Prelude.{◌≡◌, ◌<◌, ◌≤◌, ◌^◌, ◌⊎◌, Ok, Err, length, IfOk, IfErr};
-ghost use Rattle.std.specs.List.{list_all, AllByRecursion as Each};
+ghost use Rattle.std.specs.List.{AllByRecursion as Each};
 ghost use Rattle.gr_edges.specs.Vertices.{ids};
-ghost use Rattle.gr_law_runs.specs.Undisturbed.{is_plain_line};
 ghost use Rattle.imitate.specs.Reading.{task_of, plan_of, task_in, plan_in, IsPlayable};
 
 use crate::refusal::{Refusal, of_graph, of_job, of_schedule};
 use gr_base::Items;
 use gr_edges::{Graph, read_graph};
 use gr_job::{Job, read_job};
-use gr_sched::{Event, Line, read_schedule};
+use gr_sched::{Line, read_schedule};
 use std::alloc::Global;
 
 /// A job and a graph that were read.
@@ -45,8 +44,7 @@ pub fn read_work(alloc: Global, graph: &[u8], job: &[u8]) -> Result<Work, Refusa
     Ok(Work { job, graph })
 }
 
-/// What a graph, a job and a schedule say, or why one of them is refused: the job first, and the schedule last. A line
-/// that crashes, recovers, repairs or discards is not built.
+/// What a graph, a job and a schedule say, or why one of them is refused: the job first, and the schedule last.
 pub fn read_plan(
     alloc: Global,
     graph: &[u8],
@@ -67,30 +65,5 @@ pub fn read_plan(
         Ok(lines) => lines,
         Err(fault) => return Err(of_schedule(fault)),
     };
-    if are_built(lines.as_slice()) {
-        Ok(Accepted { work, lines })
-    } else {
-        Err(Refusal::NotBuilt)
-    }
-}
-
-// Whether the cluster plays all of these lines.
-fn are_built(lines: &[Line]) -> bool
-    ensures { result ≡ list_all is_plain_line lines.now }
-{
-    lines.iter().all(|line| is_built(*line))
-}
-
-fn is_built(line: Line) -> bool
-    ensures { result ≡ is_plain_line line }
-{
-    match line {
-        Line::Step(Event::Work(_)) => true,
-        Line::Step(Event::Deliver(_)) => true,
-        Line::Step(Event::Discarded(_)) => true,
-        Line::Step(Event::Barrier) => true,
-        Line::Step(_) => false,
-        Line::Settle => true,
-        Line::Finish => true,
-    }
+    Ok(Accepted { work, lines })
 }

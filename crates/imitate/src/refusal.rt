@@ -38,7 +38,6 @@ pub enum Refusal {
     Graph(GraphFault),
     Job(JobFault),
     Schedule(SchedFault),
-    NotBuilt,
     Trace,
     Output,
 }
@@ -95,7 +94,6 @@ pub fn status(refusal: &Refusal) -> u8
         Refusal::Graph(_) => 5,
         Refusal::Job(_) => 6,
         Refusal::Schedule(_) => 7,
-        Refusal::NotBuilt => 7,
         Refusal::Trace => 10,
         Refusal::Output => 11,
     }
@@ -129,7 +127,6 @@ fn words(alloc: Global, refusal: &Refusal, names: Names) -> Result<Vec<u8>, OutO
         Refusal::Graph(fault) => graph_words(alloc, fault),
         Refusal::Job(fault) => job_words(alloc, fault),
         Refusal::Schedule(fault) => schedule_words(alloc, *fault),
-        Refusal::NotBuilt => joined(alloc, b"schedule: not built", b""),
         Refusal::Trace => joined(alloc, b"cannot write ", names.trace.as_bytes()),
         Refusal::Output => joined(alloc, b"cannot write output", b""),
     }

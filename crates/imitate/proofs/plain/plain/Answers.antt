@@ -2,8 +2,8 @@ use Rattle.imitate.specs.Words.{FileNames, named}
 use Rattle.imitate.proofs.Quiet.{quiet-some, quiet-kept}
 use Rattle.imitate.proofs.Outcomes.{reply-told}
 use Rattle.imitate.proofs.Plans.{reply-fails}
-use Rattle.imitate.specs.Contents.{content}
-use Rattle.std.proofs.Common.{◌≡◌}
+use Rattle.gr_outside.specs.Files.{bytes_of}
+use Rattle.std.proofs.Common.{◌≡◌, Some}
 use Rattle.imitate.proofs.plain.plain.Goals as goal
 
 pub returns-in-Err-reply : goal.returns-in-Err-reply
@@ -16,7 +16,7 @@ returns-in-Err-reply g c =
     let job = c.in-Ok-load.job.items in
     let first = c.in-Ok.ensures in
     let second = c.in-Ok-load.ensures in
-    let told = reply-told a.told names graph job first.whole (quiet-some a b first.quiet (λ t. content t names.job ≡ job) second.whole) in
+    let told = reply-told a.told names graph job first.whole (quiet-some a b first.quiet (λ t. bytes_of t.files names.job ≡ Some job) second.whole) in
     record {
       shown = tt;
       ends = tt;

@@ -4,7 +4,7 @@ use Rattle.gr_core.specs.Loaded.{setting_of}
 use Rattle.gr_cluster.specs.Load.{load}
 use Rattle.gr_play.specs.Playing.{start, told_by}
 use Rattle.imitate.specs.Chosen.{chosen}
-use Rattle.imitate.proofs.Playings.{loaded-fresh, setting-is, graph-is, done-text, is-unplayed}
+use Rattle.imitate.proofs.Playings.{loaded-fresh, is-unplayed}
 use Rattle.imitate.proofs.played.play_program.Goals as goal
 
 pub play-ending-requires-clause-places : goal.play-ending-requires-clause-places
@@ -33,20 +33,8 @@ play-ending-requires-clause-commits g c =
     let work = c.args.accepted.now.work in
     (loaded-fresh (g.P.VertexProgram.program_of c.args.program) (setting_of work.job) work.graph.edges (ids work.graph.vertices) c.args.program c.in-Ok.cluster c.in-Ok.ensures.cluster).commits
 
-pub returns-in-Ok-tell-clause-done : goal.returns-in-Ok-tell-clause-done
-returns-in-Ok-tell-clause-done g c =
-    let P = g.P.VertexProgram.program_of c.args.program in
-    let work = c.args.accepted.now.work in
-    let s = setting_of work.job in
-    let vs = ids work.graph.vertices in
-    let small : work.job.theta < 2 ^ 32 = omega arith in
-    let plays = rw (c.in-Ok.ensures.cluster, c.as_slice.ensures) at c.play-ending.ensures.steps in
-    done-text P (g.met.P.VertexProgram.laws c.args.program) s work.graph.edges vs (setting-is work.job small)
-    (graph-is work.graph c.requires.ids_fit c.requires.few_edges c.requires.few_vertices) c.args.accepted.now.lines c.requires.plain g.P.Value.Datum.text_of
-    c.play-ending.new.steps c.play-ending.new.cluster.cluster (told_by c.play-ending.result) c.in-Ok-tell.told.ended c.in-Ok-tell.told.text.items plays c.in-Ok-tell.ensures.ended
-
-pub returns-clause-run : goal.returns-clause-run
-returns-clause-run g c =
+pub returns : goal.returns
+returns g c =
     let P = g.P.VertexProgram.program_of c.args.program in
     let work = c.args.accepted.now.work in
     let begin = start (load P (setting_of work.job) work.graph.edges (ids work.graph.vertices)) c.args.accepted.now.lines in

@@ -1,4 +1,4 @@
-use Rattle.std.proofs.Common.{◌≡◌, ◌∙◌, Ok}
+use Rattle.std.proofs.Common.{◌≡◌, ◌∙◌, Some, Ok, ap}
 use Rattle.imitate.specs.Words.{FileNames, named}
 use Rattle.imitate.specs.Reading.{plan_of, plan_in}
 use Rattle.imitate.specs.Outcome.{plan_to}
@@ -28,11 +28,11 @@ returns-in-Err-play_plan g c =
     let i = c.in-Ok.inputs in
     let plan = plan_in c.in-Ok-read_plan.accepted in
     let read = rw (c.deref.ensures.value, c.deref-2.ensures.value, c.deref-3.ensures.value) at c.in-Ok-read_plan.ensures.read in
-    let accepted = some-then a.told (λ t. plan_to t names ≡ plan_of i.graph.items i.job.items i.schedule.items) (λ t. plan_to t names ≡ Ok plan) c.in-Ok.ensures.told (λ t e. e ∙ read) in
+    let accepted = some-then a.told (λ t. plan_to t names ≡ Some (plan_of i.graph.items i.job.items i.schedule.items)) (λ t. plan_to t names ≡ Some (Ok plan)) c.in-Ok.ensures.told (λ t e. e ∙ ap Some read) in
     record {
       shown = tt;
       ends = tt;
-      fails = unplayed-fails a b d c.in-Ok.ensures.quiet names plan accepted (g.O.Sink.seen c.args.out.now) c.in-Err-play_plan.why c.in-Err-play_plan.ensures.run.unplayed;
+      fails = unplayed-fails a b d c.in-Ok.ensures.quiet names plan accepted (g.O.Sink.seen c.args.out.now) c.in-Err-play_plan.why c.in-Err-play_plan.ensures.unplayed;
     }
 
 pub returns-in-Ok-write_whole : goal.returns-in-Ok-write_whole
@@ -47,11 +47,11 @@ returns-in-Ok-write_whole g c =
     let plan = plan_in c.in-Ok-read_plan.accepted in
     let run = c.in-Ok-play_plan.told in
     let read = rw (c.deref.ensures.value, c.deref-2.ensures.value, c.deref-3.ensures.value) at c.in-Ok-read_plan.ensures.read in
-    let accepted = some-then a.told (λ t. plan_to t names ≡ plan_of i.graph.items i.job.items i.schedule.items) (λ t. plan_to t names ≡ Ok plan) c.in-Ok.ensures.told (λ t e. e ∙ read) in
+    let accepted = some-then a.told (λ t. plan_to t names ≡ Some (plan_of i.graph.items i.job.items i.schedule.items)) (λ t. plan_to t names ≡ Some (Ok plan)) c.in-Ok.ensures.told (λ t e. e ∙ ap Some read) in
     let gains = rw c.deref-4.ensures.value at c.in-Ok-write_whole.ensures.whole in
-    let played = c.in-Ok-play_plan.ensures.run.played in
+    let played = c.in-Ok-play_plan.ensures.played in
     record {
-      shown = played-shown a b d c.in-Ok.ensures.quiet names plan accepted run.ended run.text.items played out out' c.in-Ok-play_plan.ensures.done gains;
+      shown = played-shown a b d c.in-Ok.ensures.quiet names plan accepted run.ended run.text.items played out out' gains;
       ends = played-ends a b d c.in-Ok.ensures.quiet names plan accepted run.ended run.text.items played out out' gains;
       fails = tt;
     }
@@ -68,11 +68,11 @@ returns g c =
     let plan = plan_in c.in-Ok-read_plan.accepted in
     let run = c.in-Ok-play_plan.told in
     let read = rw (c.deref.ensures.value, c.deref-2.ensures.value, c.deref-3.ensures.value) at c.in-Ok-read_plan.ensures.read in
-    let accepted = some-then a.told (λ t. plan_to t names ≡ plan_of i.graph.items i.job.items i.schedule.items) (λ t. plan_to t names ≡ Ok plan) c.in-Ok.ensures.told (λ t e. e ∙ read) in
+    let accepted = some-then a.told (λ t. plan_to t names ≡ Some (plan_of i.graph.items i.job.items i.schedule.items)) (λ t. plan_to t names ≡ Some (Ok plan)) c.in-Ok.ensures.told (λ t e. e ∙ ap Some read) in
     let part = rw c.deref-4.ensures.value at c.in-Err-OutOfMemory.ensures.part in
     record {
       shown = tt;
       ends = tt;
-      fails = memory-fails a b d c.in-Ok.ensures.quiet names plan accepted run.ended run.text.items c.in-Ok-play_plan.ensures.run.played out out' (part.0, part.2)
+      fails = memory-fails a b d c.in-Ok.ensures.quiet names plan accepted run.ended run.text.items c.in-Ok-play_plan.ensures.played out out' (part.0, part.2)
           (g.met.F.Files.begun_told c.play_plan.new.files);
     }

@@ -1,6 +1,6 @@
 use Rattle.std.proofs.Common.{ℕ, List, Bor, map, refl}
 use Rattle.imitate.specs.Words.{asked_by}
-use Rattle.imitate.proofs.Behaviours.{usage-left, end-answered, refusal-left}
+use Rattle.imitate.proofs.Behaviours.{usage-left, end-answered, refusal-answered, refusal-left}
 use Rattle.imitate.proofs.top.imitate.Goals as goal
 
 pub returns-in_default-clause-left : goal.returns-in_default-clause-left
@@ -23,3 +23,9 @@ returns-in-Err-clause-left g c =
     let whole = rw c.names.ensures at c.say-in-Err.ensures.whole in
     refusal-left words asked c.in-Some.ensures.some (g.F.Files.seen c.args.files.now) (g.F.Files.seen c.answer.new.files) (g.O.Sink.seen c.args.out.now) (g.O.Sink.seen c.answer.new.out)
     (g.E.Sink.seen c.args.err.now) (g.E.Sink.seen c.say-in-Err.new.err) c.say-in-Err.result c.in-Err.refusal c.in-Err.ensures.fails c.say-in-Err.ensures.status part whole
+
+pub returns-in-Err-clause-answered : goal.returns-in-Err-clause-answered
+returns-in-Err-clause-answered g c =
+    let words : List (List ℕ) = map (λ (w : Bor (List ℕ)). w.now) c.args.words.now in
+    refusal-answered words (asked_by c.in-Some.command) c.in-Some.ensures.some (g.F.Files.seen c.args.files.now) (g.F.Files.seen c.answer.new.files) (g.O.Sink.seen c.args.out.now)
+    (g.O.Sink.seen c.answer.new.out) c.say-in-Err.result (g.E.Sink.seen c.args.err.now) (g.E.Sink.seen c.say-in-Err.new.err) c.in-Err.refusal c.in-Err.ensures.fails c.say-in-Err.ensures.status
