@@ -1,11 +1,13 @@
 #!/usr/bin/env python3
-"""costs.py PROGRAM [--most EDGES] [--limit SECONDS]: what a run on the modelled cluster costs beside `plain`.
+"""Says what a run on the modelled cluster costs beside `plain`.
+
+    bench/costs.py PROGRAM [--most EDGES] [--limit SECONDS]
 
 For graphs of 10000, 100000 and 400000 edges (no more than EDGES), shortest ways from one vertex: a row for `plain`, and
 one for `run` with the schedule `finish` for 1, 4 and 16 places and 0 and 1 losses. A row has the wall time, the peak
 memory of the process, the bytes of the trace, the rounds, the steps (lines of the trace) and whether the output is that of
 `plain`, byte for byte. A run that takes longer than SECONDS (300) is ended and its row says so. The exit status is 0
-where every run that ended gave what `plain` gave. The trace is written in the folder for temporary files (TMPDIR).
+if every run that ended printed what `plain` printed. The trace is written in the folder for temporary files (TMPDIR).
 """
 import argparse, filecmp, os, pathlib, signal, subprocess, sys, tempfile
 
@@ -15,7 +17,7 @@ HEAD = f'{"edges":>8} {"words":>6} {"places":>6} {"losses":>6} {"time s":>9} {"m
 
 
 def measured(words, out, limit):
-    """Runs the words; gives the status, None where the limit passed, the wall time, and the peak memory in MB."""
+    """Runs the words; returns the status, None if the limit passed, the wall time, and the peak memory in MB."""
     cost = f'{out}.cost'
     with open(out, 'wb') as taken:
         child = subprocess.Popen([TIME, '-f', '%e %M', '-o', cost, *words], stdin=subprocess.DEVNULL, stdout=taken, start_new_session=True)
@@ -36,7 +38,7 @@ def lines_of(name):
 
 
 def told(status, limit, plain, out):
-    """What a row says of its output; `plain` is the file of the output of `plain`, None where that did not end well."""
+    """What a row says of its output; `plain` is the file of the output of `plain`, None if that did not end well."""
     if status is None:
         return f'ended after {limit} s'
     if status != 0:
@@ -49,7 +51,7 @@ def told(status, limit, plain, out):
 
 
 def compared(program, folder, edges, limit):
-    """Prints the rows of one graph; gives whether all runs that ended gave what `plain` gave."""
+    """Prints the rows of one graph; returns whether all runs that ended printed what `plain` printed."""
     graph, job, schedule, trace, plain, out = (f'{folder}/{name}' for name in ('graph', 'job', 'schedule', 'trace', 'plain', 'out'))
     vertices = 1 << (edges // 4).bit_length() - 1
     maker = pathlib.Path(__file__).resolve().with_name('graphs.py')
@@ -76,10 +78,10 @@ def compared(program, folder, edges, limit):
 
 
 def main():
-    words = argparse.ArgumentParser(usage=__doc__)
-    words.add_argument('program')
-    words.add_argument('--most', type=int, default=SIZES[-1])
-    words.add_argument('--limit', type=int, default=300)
+    words = argparse.ArgumentParser(description=__doc__, formatter_class=argparse.RawDescriptionHelpFormatter)
+    words.add_argument('program', metavar='PROGRAM')
+    words.add_argument('--most', type=int, default=SIZES[-1], metavar='EDGES')
+    words.add_argument('--limit', type=int, default=300, metavar='SECONDS')
     given = words.parse_args()
     if not os.access(TIME, os.X_OK):
         sys.exit(f'costs.py: {TIME} is wanted; Debian has it in the package time')

@@ -1,11 +1,13 @@
 #!/usr/bin/env python3
-"""rows.py PROGRAM [WORD]: worked inputs through real files, byte for byte.
+"""Runs worked inputs through real files, byte for byte.
+
+    bench/rows.py PROGRAM [WORD]
 
 Each row runs PROGRAM in a fresh folder with the files g (graph), j (job), s (schedule) and t (trace) that the row
-has, and compares the status, both streams and the trace. A line tells each row that fails, the last line how many
-passed; the exit status is 0 where all did. WORD picks the rows of one form of words, `plain` or `run`.
+has, and compares the status, both streams and the trace. A line names each row that fails, and the last line says how many
+passed; the exit status is 0 if all did. WORD picks the rows of one form of words, `plain`, `run` or `load`.
 """
-import dataclasses, os, pathlib, re, subprocess, sys, tempfile
+import argparse, dataclasses, os, pathlib, re, subprocess, sys, tempfile
 
 LIMIT = 60  # seconds for one row
 PLAIN, RUN = 'plain g j', 'run g j s t'
@@ -26,10 +28,12 @@ class Row:
     full: bool = False  # standard output is a full disk
     folders: tuple = ()  # names that are folders
     before: bytes | None = None  # the trace before the run
-    trace: str | bytes | None = None  # the whole trace; None where none may be made
-    lines: dict = dataclasses.field(default_factory=dict)  # lines of the trace by number, from the end where negative
+    trace: str | bytes | None = None  # the whole trace; None if none may be made
+    lines: dict = dataclasses.field(default_factory=dict)  # lines of the trace by number, from the end if negative
     has: tuple = ()  # lines that the trace has
+    part: bytes | str | None = None  # lines that stand together in the trace
     lacks: str | None = None  # a pattern that the trace does not have
+    ends: str | None = None  # how some line of the trace ends
 
 
 def text(lines):
@@ -206,15 +210,116 @@ RUN_ROWS = [
         err='cannot write output', trace=TWO_PLACES),
 ]
 
-# What is refused until it is built. A row goes when its words or its events come.
-LATER_ROWS = [
-    Row(f'{line}: not built', RUN, TRIANGLE, SHORTEST, f'settle / {line} / finish', status=7, err='schedule: not built')
-    for line in ('crash 0', 'crash 0 keep 7', 'recover', 'recover rebirth 0', 'repair', 'discard')
-] + [Row('generated input: not built', 'load 0 1', status=2, err=USAGE)]
+# The triangle after its first commit: place 0 fails, and a spare takes its place.
+BY_REBIRTH = b'''crash 0 kept 0
+work 1 install 1
+work 1 adopt 1
+work 1 compute gather
+work 1 send 8 gather to 0
+delivered 8 from 1 to 0 epoch 1 round 1 gather down
+barrier failed 0
+work 1 adopt 2
+recover epoch 3 rebirth 0
+work 0 compute ask
+work 0 send 9 ask to 1
+delivered 9 from 0 to 1 epoch 3 round 1 ask taken
+work 1 adopt 3
+work 1 compute ask
+work 1 send 10 ask to 0
+delivered 10 from 1 to 0 epoch 3 round 1 ask taken
+work 0 compute grant
+work 0 send 11 grant to 1
+delivered 11 from 0 to 1 epoch 3 round 1 grant taken
+work 1 compute grant
+work 1 send 12 grant to 0
+delivered 12 from 1 to 0 epoch 3 round 1 grant taken 0:0:2:0:0,1:0:0 1:1:1:1:0,1:1:0 2:2:0:0:0,1:1:1
+work 0 compute end
+work 0 append 66
+work 0 ready 1
+work 1 compute end
+work 1 append 66
+work 1 ready 0
+barrier committed 2 round 1 due 1
+'''
+# The same without a spare: the other place takes over the edges, and installs the commit before it adopts.
+BY_MIGRATION = b'''crash 0 kept 0
+barrier failed 0
+work 1 install 1
+work 1 adopt 2
+recover epoch 3
+work 1 adopt 3
+work 1 compute ask
+work 1 compute grant
+work 1 compute end
+work 1 append 100
+work 1 ready 1
+barrier committed 2 round 1 due 1
+work 1 install 2
+work 1 adopt 4
+work 1 compute gather
+work 1 compute update
+work 1 compute signal
+work 1 compute call
+work 1 compute end
+work 1 ready 0
+barrier committed 3 round 2 due 0
+'''
+OWED_GRANT = ('0:0:1:0:0,1:150000:0 1:1:0:1:0,1:-:1 2:0:1:0:0,1:150000:0 3:1:1:1:0,1:277500:0 4:1:1:0:0,1:385875:0'
+              ' 5:1:1:1:0,1:1000000:1 6:1:0:0:0,1:-:0')
+TORN = times(('settle', 1), ('crash 0', 1), ('barrier', 1), ('recover', 1), ('work 1', 5), ('work 2', 5), ('work 3', 5),
+             ('deliver 0', 6), ('work 1', 3), ('work 2', 3), ('work 3', 3), ('deliver 0', 6), ('work 1', 2),
+             ('crash 1 keep 7', 1), ('finish', 1))
+SPARE, THREE = SHORTEST + ' / spares = 1', job('shortest', places=3, source=0)
+LOST_IT = dict(status=8, out='lost 1 / 2')
+
+CRASH_ROWS = [
+    Row('a spare takes the place of one that fails', RUN, TRIANGLE, SPARE, 'settle / crash 0 / finish', out=WAYS, part=BY_REBIRTH),
+    Row('the other place takes over', RUN, TRIANGLE, SHORTEST, 'settle / crash 0 / barrier / finish', out=WAYS, part=BY_MIGRATION),
+    Row('a place fails while it appends to its log', RUN, TRIANGLE, job('shortest', places=4, losses=2, source=0), TORN, out=WAYS,
+        part='work 1 append 22 / crash 1 kept 7'),
+    Row('a value that only its master had is computed anew', RUN, '0 1 / 2 3 / 3 4 / 4 5 / 5 6', job('rank', spares=1),
+        'settle / settle / settle / crash 1 / finish',
+        out='done 5 7 / 0 150000 / 1 277500 / 2 150000 / 3 277500 / 4 385875 / 5 477993 / 6 556294', ends=' grant taken ' + OWED_GRANT),
+    Row('two of three places fail before the first commit', RUN, TRIANGLE, THREE, 'crash 0 / crash 2 / finish', **LOST_IT,
+        lines={-1: 'recover lost 1'}),
+    Row('two places fail, one after the other', RUN, TRIANGLE, THREE, 'crash 2 / settle / crash 0 / finish', **LOST_IT),
+    Row('a repair between two failures', RUN, TRIANGLE, THREE, 'crash 2 / settle / repair / settle / crash 0 / finish', out=WAYS),
+    Row('nothing to deliver, and a place that is down does nothing', RUN, TRIANGLE, SHORTEST, 'deliver 0 / crash 1 / work 1', status=9,
+        out='unfinished 0', trace='deliver 0 idle / crash 1 kept 0 / work 1 idle'),
+    Row('the spare fails, and the next one starts', RUN, TRIANGLE, job('shortest', places=3, losses=2, spares=2, source=0),
+        'crash 0 / barrier / recover rebirth 0 / crash 0 / finish', out=WAYS),
+    Row('a recovery is discarded, and its spare is used again', RUN, TRIANGLE, SPARE,
+        'crash 0 / barrier / recover rebirth 0 / discard / finish', out=WAYS,
+        lines=dict(enumerate(('crash 0 kept 0', 'barrier failed 0', 'recover epoch 2 rebirth 0', 'discard epoch 3')))),
+    Row('a host that went back cannot crash', RUN, TRIANGLE, SPARE, 'crash 0 / barrier / recover rebirth 0 / discard / crash 0 / finish',
+        out=WAYS, lines={4: 'crash 0 idle'}),
+    Row('a rebirth without a spare', RUN, TRIANGLE, SHORTEST, 'crash 0 / barrier / recover rebirth 0 / finish', out=WAYS,
+        lines={2: 'recover rebirth 0 idle'}),
+    Row('a round is discarded', RUN, TRIANGLE, SHORTEST, 'settle / discard / finish', out=WAYS,
+        part='barrier committed 1 round 1 due 1 / discard epoch 2'),
+    Row('a repair of what is whole', RUN, TRIANGLE, THREE, 'repair / finish', out=WAYS,
+        lines={0: 'repair epoch 1'}, has=('work 0 append 0', 'work 1 append 0', 'work 2 append 0'), lacks=r' append [1-9]'),
+    Row('a recovery that was not committed counts for nothing', RUN, TRIANGLE, THREE, 'crash 2 / barrier / recover / crash 0 / finish',
+        **LOST_IT),
+    Row('all places fail', RUN, TRIANGLE, SHORTEST, 'crash 0 / crash 1 / finish', status=8, out='lost 3 / 0 / 1 / 2'),
+    Row('events that are not enabled', RUN, TRIANGLE, SHORTEST, 'recover / recover rebirth 1 / crash 1 / crash 1 / repair / repair',
+        status=9, out='unfinished 0',
+        trace='recover idle / recover rebirth 1 idle / crash 1 kept 0 / crash 1 idle / repair epoch 1 / repair idle'),
+    Row('an order of failures on a full disk', RUN, TRIANGLE, SPARE, 'settle / crash 0 / finish', full=True, status=11,
+        err='cannot write output', part=BY_REBIRTH),
+]
+
+LOAD_ROWS = [
+    Row('generated input, one edge', 'load 0 1', out='load 0 1 vertices 1 rounds 1 events 123 sum 0'),
+    Row('generated input, leading zeros', 'load 000 0001', out='load 0 1 vertices 1 rounds 1 events 123 sum 0'),
+    Row('generated input, a thousand edges', 'load 5 1000', out='load 5 1000 vertices 251 rounds 10 events 1465 sum 3265'),
+    Row('generated input on a full disk', 'load 0 1', full=True, status=11, err='cannot write output'),
+] + [Row(f'{words}: no such form', words, status=2, err=USAGE)
+     for words in ('load', 'load 0', 'load 0 0', 'load 0 100001', 'load 4294967296 1', 'load x 1', 'load 0 1x', 'load -1 1', 'load 0 1 2')]
 
 
 def made(program, row):
-    """Runs the row in a folder of its own; gives the status, both streams and the trace, None where there is no such file."""
+    """Runs the row in a folder of its own; returns the status, both streams and the trace, None if there is no such file."""
     with tempfile.TemporaryDirectory() as folder:
         for name, content in (('g', row.graph), ('j', row.job), ('s', row.schedule), ('t', row.before)):
             if content is not None:
@@ -250,6 +355,8 @@ def told_of_trace(row, trace):
         if got != line:
             wrong.append(f'trace, line {at + 1 if at >= 0 else f"{-at} from the end"}: wanted {line!r}, got {got!r}')
     wrong += [f'trace: has no line {line!r}' for line in row.has if line not in lines]
+    wrong += ['trace: the wanted part does not stand in it'] if row.part and text(row.part) not in trace else []
+    wrong += [f'trace: no line ends in {row.ends!r}'] if row.ends and not any(line.endswith(row.ends) for line in lines) else []
     return wrong + [f'trace: has {line!r}' for line in lines if row.lacks and re.search(row.lacks, line)]
 
 
@@ -262,15 +369,19 @@ def faults(program, row):
     wrong = [] if status == row.status else [f'status: wanted {row.status}, got {status}']
     wrong += [first_difference(what, text(wanted), got)
               for what, wanted, got in (('out', row.out, out), ('err', row.err, err)) if text(wanted) != got]
-    by_lines = row.lines or row.has or row.lacks
+    by_lines = row.lines or row.has or row.lacks or row.part or row.ends
     if by_lines or row.trace is None and row.words == RUN and row.status in (0, 8, 9):
         return wrong + told_of_trace(row, trace)
     return wrong if text(row.trace) == trace else wrong + [first_difference('trace', text(row.trace), trace)]
 
 
 def main():
-    program = os.path.abspath(sys.argv[1])
-    rows = [row for row in PLAIN_ROWS + RUN_ROWS + LATER_ROWS if len(sys.argv) < 3 or row.words.split()[:1] == sys.argv[2:3]]
+    words = argparse.ArgumentParser(description=__doc__, formatter_class=argparse.RawDescriptionHelpFormatter)
+    words.add_argument('program', type=os.path.abspath, metavar='PROGRAM')
+    words.add_argument('word', nargs='?', metavar='WORD', help='run only the rows of this form of words')
+    given = words.parse_args()
+    program = given.program
+    rows = [row for row in PLAIN_ROWS + RUN_ROWS + CRASH_ROWS + LOAD_ROWS if given.word is None or row.words.split()[:1] == [given.word]]
     failed = 0
     for row in rows:
         wrong = faults(program, row)
