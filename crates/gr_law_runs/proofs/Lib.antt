@@ -1,4 +1,6 @@
-pub mod Finish
-pub mod Plain
-pub mod Results
-pub mod Schedules
+pub mod Runs
+pub mod Left
+pub mod Inside
+pub mod Events
+pub mod Ends
+pub mod Bounds

@@ -1,2 +1,7 @@
-pub mod Law
+pub mod Crashes
+pub mod Ends
+pub mod Events
+pub mod Left
+pub mod Runs
+pub mod ToGo
 pub mod Undisturbed

@@ -1,6 +1,6 @@
 use Rattle.std.proofs.Common.{[], ◌∷◌, ◌++◌, refl, inl}
 use Rattle.gr_sched.specs.declared.event.Line.TheVariants as line
-use Rattle.gr_law_runs.proofs.Finish.{after-finishes, whole-over}
+use Rattle.gr_law_runs.proofs.Runs.Finish.{after-finishes, whole-over}
 use Rattle.gr_cluster.specs.Runs.{position_after}
 use Rattle.gr_law_runs.proofs.finish_is_over.Goals as goal
 

@@ -1,4 +1,4 @@
-use Rattle.gr_law_runs.proofs.Plain.{plain-undisturbed}
+use Rattle.gr_law_runs.proofs.Runs.Plain.{plain-undisturbed}
 use Rattle.gr_law_runs.proofs.plain_events_disturb_nothing.Goals as goal
 
 pub returns : goal.returns

@@ -1,4 +1,4 @@
-use Rattle.gr_law_runs.proofs.Results.{plain-result}
+use Rattle.gr_law_runs.proofs.Runs.Results.{plain-result}
 use Rattle.gr_law_runs.proofs.plain_runs_give_the_result.Goals as goal
 
 pub returns : goal.returns

@@ -1,4 +1,4 @@
-use Rattle.gr_law_runs.proofs.Schedules.{schedule-result}
+use Rattle.gr_law_runs.proofs.Runs.Schedules.{schedule-result}
 use Rattle.gr_law_runs.proofs.plain_schedules_give_the_result.Goals as goal
 
 pub returns : goal.returns

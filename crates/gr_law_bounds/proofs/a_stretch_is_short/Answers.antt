@@ -1,5 +1,0 @@
-use Rattle.gr_law_bounds.proofs.Stretch.{stretch-short}
-use Rattle.gr_law_bounds.proofs.a_stretch_is_short.Goals as goal
-
-pub returns : goal.returns
-returns g c = λ P laws c n invariant played same. stretch-short P laws c n invariant played same

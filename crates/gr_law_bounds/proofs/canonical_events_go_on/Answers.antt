@@ -1,5 +1,0 @@
-use Rattle.gr_law_bounds.proofs.ToGo.{canonical-goes}
-use Rattle.gr_law_bounds.proofs.canonical_events_go_on.Goals as goal
-
-pub returns : goal.returns
-returns g c = λ P laws c e I is. canonical-goes P laws c e I is

@@ -1,5 +1,0 @@
-use Rattle.gr_law_bounds.proofs.Crashes.{few-borne}
-use Rattle.gr_law_bounds.proofs.few_crashes_are_borne.Goals as goal
-
-pub returns : goal.returns
-returns g c = λ P laws s es vs ls setting graph names few fewer. few-borne P laws s es vs ls setting graph names few fewer

@@ -1,5 +1,0 @@
-use Rattle.gr_law_commit.proofs.Barrier.{barrier-kept}
-use Rattle.gr_law_commit.proofs.a_barrier_that_decides_nothing_keeps.Goals as goal
-
-pub returns : goal.returns
-returns g c = λ P t c agree none same. barrier-kept P t c agree none same

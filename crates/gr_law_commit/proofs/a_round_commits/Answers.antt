@@ -1,5 +1,0 @@
-use Rattle.gr_law_commit.proofs.Commit.{round-commits}
-use Rattle.gr_law_commit.proofs.a_round_commits.Goals as goal
-
-pub returns : goal.returns
-returns g c = λ P laws t c e agree commits round. round-commits P laws t c e agree commits round

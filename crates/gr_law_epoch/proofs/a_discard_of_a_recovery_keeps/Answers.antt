@@ -1,5 +1,0 @@
-use Rattle.gr_law_epoch.proofs.Discard.{discard-later}
-use Rattle.gr_law_epoch.proofs.a_discard_of_a_recovery_keeps.Goals as goal
-
-pub returns : goal.returns
-returns g c = λ P t c agree yes. discard-later P t c agree yes

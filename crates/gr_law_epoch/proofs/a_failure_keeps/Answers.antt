@@ -1,5 +1,0 @@
-use Rattle.gr_law_epoch.proofs.Crashes.{barrier-later}
-use Rattle.gr_law_epoch.proofs.a_failure_keeps.Goals as goal
-
-pub returns : goal.returns
-returns g c = λ P t c agree none new. barrier-later P t c agree none new

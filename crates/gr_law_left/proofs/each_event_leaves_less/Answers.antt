@@ -1,5 +1,0 @@
-use Rattle.gr_law_left.proofs.Less.{canonical-leaves-less}
-use Rattle.gr_law_left.proofs.each_event_leaves_less.Goals as goal
-
-pub returns : goal.returns
-returns g c = λ P laws c e I is. canonical-leaves-less P I.0 c I.1 e is

@@ -1,5 +1,0 @@
-use Rattle.gr_law_left.proofs.Told.{step-told}
-use Rattle.gr_law_left.proofs.epochs_are_told.Goals as goal
-
-pub returns : goal.returns
-returns g c = λ P c e. step-told c P e

@@ -1,5 +1,0 @@
-use Rattle.gr_law_left.proofs.Counts.{step-counts}
-use Rattle.gr_law_left.proofs.steps_raise_by_one.Goals as goal
-
-pub returns : goal.returns
-returns g c = λ P c e. step-counts P c e

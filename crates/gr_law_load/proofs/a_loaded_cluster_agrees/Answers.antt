@@ -1,5 +1,0 @@
-use Rattle.gr_law_load.proofs.Load.{load-holds}
-use Rattle.gr_law_load.proofs.a_loaded_cluster_agrees.Goals as goal
-
-pub returns : goal.returns
-returns g c = λ P laws s es vs setting graph. load-holds P s es vs setting graph

@@ -1,5 +1,0 @@
-use Rattle.gr_law_logs.proofs.Logged.{graph-in}
-use Rattle.gr_law_logs.proofs.logs_say_the_graph.Goals as goal
-
-pub returns : goal.returns
-returns g c = λ P t c agree. graph-in P t c agree

@@ -1,3 +1,0 @@
-pub mod Act
-pub mod Bodies
-pub mod Rows

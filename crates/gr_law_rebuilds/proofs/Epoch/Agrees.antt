@@ -1,0 +1,48 @@
+-- A cluster that opens its next epoch agrees with the same committed state.
+use Rattle.std.proofs.Common.{refl, ap, ◌∙◌, subst, sym, arith}
+use Rattle.gr_program.specs.Program.{Program}
+use Rattle.gr_log.specs.Directory.{directory_in, edges_in, KeepsEachOnce}
+use Rattle.gr_cluster.specs.Tables.{Cluster}
+use Rattle.gr_agree.specs.Truth.{Truth}
+use Rattle.gr_agree.specs.TrueRound.{active_next}
+use Rattle.gr_agree.specs.Agree.{Agree}
+use Rattle.gr_law_rounds.proofs.Network.Later.{none-reported}
+use Rattle.gr_law_rebuilds.proofs.Epoch.Opened.{Change, opened, Opens, live-same}
+use Rattle.gr_law_rebuilds.proofs.Epoch.Batches.{network-later}
+use Rattle.gr_law_rebuilds.proofs.Epoch.Parties.{host-later, reborn-later, unready-later}
+use Rattle.gr_law_rebuilds.specs.Epoch.{IsLater}
+
+module _ {V A : Type 0} (P : Program V A) (t : Truth V) (c : Cluster V A) (AG : Agree P t c) (x : Change V A) (O : Opens t c x) where
+  pub opened-agrees : Agree P t (opened t c x)
+  opened-agrees = record {
+    committed = record {
+      shaped = O.shaped;
+      places = O.places;
+      sound = AG.committed.sound;
+      logs = let G = AG.committed.logs in record {
+        theta = G.theta;
+        holders = G.holders;
+        alive = O.alive;
+        entries = λ q lt r. ap directory_in (O.logs q) ∙ G.entries q lt r;
+        edges = λ q lt r. ap edges_in (O.logs q) ∙ G.edges q lt r;
+        edges_once = λ q lt r. subst KeepsEachOnce (sym (O.logs q)) (G.edges_once q lt r);
+      };
+      hosts = λ q h at l. AG.committed.hosts q h (sym (O.stays q l) ∙ at) (O.live q l);
+      round = record { state = AG.committed.round.state; settled = λ e. absurd (O.not_done e) };
+    };
+    open_work = record {
+      network = network-later P t c AG x O;
+      hosts = λ q h at party. host-later P t c AG x O q h at;
+      reborn = λ q h at y. reborn-later P t c AG x O q h at y;
+      end = record { done = λ e. absurd (O.not_done e); not_done = λ e. AG.open_work.end.not_done O.was_not_done };
+      reports = record {
+        ready = λ q h at party. unready-later P t c AG x O q h at;
+        none = λ e. (refl, refl);
+        due = λ e. sym (none-reported (active_next P t) t.master t.vertices);
+        due_bounded = λ e. omega arith;
+      };
+    };
+  }
+
+  pub opened-later : IsLater P t c (opened t c x)
+  opened-later = (live-same t c x O, opened-agrees)

@@ -1,0 +1,4 @@
+pub mod Loss
+pub mod Epoch
+pub mod Restore
+pub mod Rebuild

@@ -1,0 +1,3 @@
+pub mod Epoch
+pub mod Rebuild
+pub mod Restore

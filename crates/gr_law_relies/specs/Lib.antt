@@ -1,2 +1,0 @@
-pub mod AtPlace
-pub mod Law

@@ -1,5 +1,0 @@
-use Rattle.gr_law_restore.proofs.Commit.{rebuild-graph}
-use Rattle.gr_law_restore.proofs.a_rebuild_keeps_the_graph.Goals as goal
-
-pub returns : goal.returns
-returns g c = λ P t c e agree commits rebuild. rebuild-graph P t c e agree commits rebuild

@@ -1,5 +1,0 @@
-use Rattle.gr_law_round.proofs.Work.{work-kept}
-use Rattle.gr_law_round.proofs.work_keeps_in_a_round.Goals as goal
-
-pub returns : goal.returns
-returns g c = λ P laws t c p agree no_rebuild. work-kept P laws t c agree no_rebuild p

@@ -1,0 +1,4 @@
+pub mod Commit
+pub mod Logs
+pub mod Network
+pub mod Round

@@ -1,0 +1,4 @@
+pub mod Finish
+pub mod Plain
+pub mod Results
+pub mod Schedules

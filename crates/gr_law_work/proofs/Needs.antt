@@ -1,0 +1,4 @@
+pub mod Act
+pub mod Bodies
+pub mod Rows
+pub mod NewValues
