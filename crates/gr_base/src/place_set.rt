@@ -1,6 +1,6 @@
-ghost use Rattle.std.specs.Prelude.{◌≡◌, ◌<◌, ◌≤◌, ◌↔◌, [], length, IsTrue, IsNone};
+ghost use Rattle.std.specs.Prelude.{◌≡◌, ◌<◌, ◌≤◌, ◌↔◌, [], length, slice_get, IsTrue, IsNone, IfSome};
 ghost use Rattle.std.specs.List.{Contains};
-ghost use Rattle.gr_base.specs.Rising.{has as is_in};
+ghost use Rattle.gr_base.specs.Rising.{has as is_in, without, union, includes};
 ghost use Rattle.gr_base.specs.Places.{IsPlaces, below, with_place, without_place, first_from};
 
 use std::marker::Model;
@@ -77,10 +77,48 @@ impl PlaceSet {
         }
     }
 
+    /// The places that do not stand in the other set.
+    pub fn difference(self, other: PlaceSet) -> PlaceSet
+        ensures difference { result ≡ without self other }
+        ensures places { IsPlaces self }
+    {
+        PlaceSet {
+            bits: self.bits & !other.bits,
+        }
+    }
+
+    /// The places that stand in either set.
+    pub fn union(self, other: PlaceSet) -> PlaceSet
+        ensures { result ≡ union self other }
+    {
+        PlaceSet {
+            bits: self.bits | other.bits,
+        }
+    }
+
+    /// Whether each place of the other set stands in this one.
+    pub fn includes(self, other: PlaceSet) -> bool
+        ensures { result ≡ includes self other }
+    {
+        other.bits & !self.bits == 0
+    }
+
     pub fn count(&self) -> u32
         ensures { result ≡ length self.now }
     {
         self.bits.count_ones()
+    }
+
+    /// The least place. `None` only if the set is empty.
+    pub fn first(self) -> Option<u8>
+        ensures first { result ≡ slice_get self 0 }
+        ensures place { IfSome result (λ p. p < 64) }
+    {
+        if self.bits == 0 {
+            None
+        } else {
+            Some(self.bits.trailing_zeros() as u8)
+        }
     }
 
     /// The first place in ring order of 64 places from `start` on.

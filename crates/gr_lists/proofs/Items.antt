@@ -133,6 +133,13 @@ module _ {X : Type 0} (key : X → ℕ) where
   pub items-rising : (xs : List X) → RisesBy key xs → put xs [] ≡ xs
   items-rising xs r = rises-same (put xs []) xs (items-rise xs [] (rises-nil key)) r (find-rising xs r)
 
+  -- of several items of one number only the last counts
+  pub items-last : (news old : List X) → RisesBy key old → put (put news []) old ≡ put news old
+  items-last news old r =
+      rises-same (put (put news []) old) (put news old) (items-rise (put news []) old r) (items-rise news old r)
+      (λ v. find-items (put news []) old v
+      ∙ (ap (λ o. or_else o (of v old)) (find-rising (put news []) (items-rise news [] (rises-nil key)) v) ∙ sym (find-items news old v)))
+
 module _ {X Y : Type 0} (key : X → ℕ) (part : Y → List X) (test : Y → X → Bool) (whole : List X) (r : RisesBy key whole) where
   abbrev Parts : List Y → Type 0
   Parts ps = Each (λ p. fold (λ ys x. with_item key x ys) [] (part p) ≡ filter (test p) whole) ps
