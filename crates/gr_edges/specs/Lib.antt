@@ -1,4 +1,5 @@
 pub mod Fields
+pub mod Marks
 pub mod Reading
 pub mod Recent
 pub mod Summary

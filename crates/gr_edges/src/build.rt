@@ -1,12 +1,13 @@
-ghost use Rattle.std.specs.Prelude.{◌≡◌, ◌+◌, ◌<◌, ◌^◌, true, [], length, map, nat_lt, slice_index_or, IfOk};
-ghost use Rattle.std.specs.List.{All, prefix_len};
+ghost use Rattle.std.specs.Prelude.{◌≡◌, ◌+◌, ◌<◌, ◌^◌, true, [], length, map, IfOk};
+ghost use Rattle.std.specs.List.{All};
 ghost use Rattle.gr_base.specs.Rising.{RisesBy, has};
 ghost use Rattle.gr_edges.specs.Vertices.{id_of, ids, vertex_of, with_source, with_target, HasEnds};
 
 use crate::graph::{Graph, VertexInfo};
+use crate::places::{place_hints, place_of};
+use crate::tally::{room_for, tallied_graph};
 use gr_base::{Edge, Items, OutOfMemory};
 use std::alloc::Global;
-use std::collections::BTreeSet;
 
 impl Graph {
     /// The graph of these edges and the vertices of these ids, with the degrees counted.
@@ -19,31 +20,29 @@ impl Graph {
         ensures edges { IfOk result (λ graph. graph.edges ≡ edges) }
         ensures vertices { IfOk result (λ graph. graph.vertices ≡ map (vertex_of edges) ids.now) }
     {
-        let mut vertices = Vec::new(alloc);
-        for id in ids {
-            vertices.push(unconnected(*id))?;
+        let room = room_for(ids);
+        if room / 4 <= ids.len() {
+            tallied_graph(alloc, edges, ids, room)
+        } else {
+            hinted_graph(alloc, edges, ids)
         }
-        Ok(with_degrees(edges, vertices))
     }
 }
 
-/// The graph of these edges and the vertices of this set, with the degrees counted.
-pub fn graph_of(
-    alloc: Global,
-    edges: Items<Edge>,
-    numbers: &BTreeSet<u32>,
-) -> Result<Graph, OutOfMemory>
-    requires rise { RisesBy (λ n. n) numbers.now.keys }
-    requires ends { All (HasEnds numbers.now.keys) edges }
+// The graph of these edges and ids, with the degrees counted at the places of the ids.
+fn hinted_graph(alloc: Global, edges: Items<Edge>, ids: &[u32]) -> Result<Graph, OutOfMemory>
+    requires rise { RisesBy (λ n. n) ids.now }
+    requires ends { All (HasEnds ids.now) edges }
     requires few { length edges < 2 ^ 32 }
     ensures edges { IfOk result (λ graph. graph.edges ≡ edges) }
-    ensures vertices { IfOk result (λ graph. graph.vertices ≡ map (vertex_of edges) numbers.now.keys) }
+    ensures vertices { IfOk result (λ graph. graph.vertices ≡ map (vertex_of edges) ids.now) }
 {
     let mut vertices = Vec::new(alloc);
-    for id in numbers.iter() {
+    for id in ids {
         vertices.push(unconnected(*id))?;
     }
-    Ok(with_degrees(edges, vertices))
+    let hints = place_hints(alloc, vertices.as_slice())?;
+    Ok(with_degrees(edges, vertices, hints.as_slice()))
 }
 
 // The vertex of an id, with no edge.
@@ -58,8 +57,8 @@ fn unconnected(id: u32) -> VertexInfo
     }
 }
 
-// The graph of these edges and of vertices that have none yet.
-fn with_degrees(edges: Items<Edge>, mut vertices: Vec<VertexInfo>) -> Graph
+// The graph of these edges and of vertices that have none yet, by any hints.
+fn with_degrees(edges: Items<Edge>, mut vertices: Vec<VertexInfo>, hints: &[u32]) -> Graph
     requires rise { RisesBy id_of vertices.items }
     requires none { vertices.items ≡ map (vertex_of []) (ids vertices.items) }
     requires ends { All (HasEnds (ids vertices.items)) edges }
@@ -68,7 +67,7 @@ fn with_degrees(edges: Items<Edge>, mut vertices: Vec<VertexInfo>) -> Graph
     ensures edges { result.edges ≡ edges }
     ensures vertices { result.vertices ≡ map (vertex_of edges) (ids vertices.items) }
 {
-    count_degrees(vertices.as_mut_slice(), edges.as_slice());
+    count_degrees(vertices.as_mut_slice(), hints, edges.as_slice());
     Graph {
         edges,
         vertices: Items::from_vec(vertices),
@@ -76,7 +75,7 @@ fn with_degrees(edges: Items<Edge>, mut vertices: Vec<VertexInfo>) -> Graph
 }
 
 // Adds to the degrees of unconnected vertices those that the edges give them.
-fn count_degrees(vertices: &mut [VertexInfo], edges: &[Edge])
+fn count_degrees(vertices: &mut [VertexInfo], hints: &[u32], edges: &[Edge])
     requires rise { RisesBy id_of vertices.old }
     requires none { vertices.old ≡ map (vertex_of []) (ids vertices.old) }
     requires ends { All (HasEnds (ids vertices.old)) edges.now }
@@ -84,19 +83,19 @@ fn count_degrees(vertices: &mut [VertexInfo], edges: &[Edge])
     ensures { vertices.new ≡ map (vertex_of edges.now) (ids vertices.old) }
 {
     for edge in edges {
-        count_source(vertices, edge.src);
-        count_target(vertices, edge.dst);
+        count_source(vertices, hints, edge.src);
+        count_target(vertices, hints, edge.dst);
     }
 }
 
 // One more edge begins at a vertex.
-fn count_source(vertices: &mut [VertexInfo], id: u32)
+fn count_source(vertices: &mut [VertexInfo], hints: &[u32], id: u32)
     requires rise { RisesBy id_of vertices.old }
     requires stands { has (ids vertices.old) id ≡ true }
     requires room { All (λ v. v.outdeg + 1 < 2 ^ 32) vertices.old }
     ensures { vertices.new ≡ map (with_source id) vertices.old }
 {
-    let place = place_of(vertices, id);
+    let place = place_of(vertices, hints, id);
     let vertex = vertices[place];
     vertices[place] = VertexInfo {
         outdeg: vertex.outdeg + 1,
@@ -106,28 +105,17 @@ fn count_source(vertices: &mut [VertexInfo], id: u32)
 }
 
 // One more edge ends at a vertex.
-fn count_target(vertices: &mut [VertexInfo], id: u32)
+fn count_target(vertices: &mut [VertexInfo], hints: &[u32], id: u32)
     requires rise { RisesBy id_of vertices.old }
     requires stands { has (ids vertices.old) id ≡ true }
     requires room { All (λ v. v.indeg + 1 < 2 ^ 32) vertices.old }
     ensures { vertices.new ≡ map (with_target id) vertices.old }
 {
-    let place = place_of(vertices, id);
+    let place = place_of(vertices, hints, id);
     let vertex = vertices[place];
     vertices[place] = VertexInfo {
         indeg: vertex.indeg + 1,
         id: vertex.id,
         outdeg: vertex.outdeg,
     };
-}
-
-// Where the vertex of an id stands.
-fn place_of(vertices: &[VertexInfo], id: u32) -> usize
-    requires rise { RisesBy id_of vertices.now }
-    requires stands { has (ids vertices.now) id ≡ true }
-    ensures place { result ≡ prefix_len (λ v. nat_lt v.id id) vertices.now }
-    ensures within { result < length vertices.now }
-    ensures found { (d : VertexInfo) → id_of (slice_index_or vertices.now result d) ≡ id }
-{
-    vertices.partition_point(|v| v.id < id)
 }

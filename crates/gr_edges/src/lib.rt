@@ -7,8 +7,12 @@ mod field;
 mod graph;
 mod id_set;
 mod line;
+mod number;
+mod places;
 mod print;
 mod read;
+mod tally;
+mod tree_ids;
 
 pub use fault::GraphFault;
 pub use graph::{Graph, VertexInfo};

@@ -2,7 +2,6 @@ ghost use Rattle.std.specs.Prelude.{◌≡◌, ◌≤◌, ◌⊎◌, [], ◌++�
 ghost use Rattle.std.specs.Option.{option_or};
 ghost use Rattle.gr_edges.specs.Reading.{lines_of, edges_of, vertices_of, edges_of_line, ids_of_line, joined, both_ways, fault_of_line, fault_of_size, first_fault, ids_of, max_edges, max_vertices, IsWithinLimits};
 
-use crate::build::graph_of;
 use crate::fault::GraphFault;
 use crate::graph::Graph;
 use crate::id_set::IdSet;
@@ -30,10 +29,11 @@ pub fn read_graph(alloc: Global, bytes: &[u8], undirected: bool) -> Result<Graph
     ensures refused { IfErr result (λ fault. (fault ≡ GraphFault.OutOfMemory) ⊎ (first_fault undirected (lines_of bytes.now) ≡ Some fault)) }
 {
     let mut edges = Items::new(alloc);
-    let slots = (bytes.len() / 8).clamp(1, MAX_VERTICES);
+    let slots = (bytes.len() / 2).clamp(1, 4 * MAX_VERTICES);
     let mut ids = IdSet::new(alloc, slots)?;
     take_lines(&mut edges, &mut ids, undirected, bytes)?;
-    let graph = graph_of(alloc, edges, ids.numbers())?;
+    let numbers = ids.numbers(alloc)?;
+    let graph = Graph::from_edges(alloc, edges, numbers.as_slice())?;
     Ok(graph)
 }
 
@@ -152,7 +152,7 @@ fn check_size(number: u32, edges: &Items<Edge>, ids: &IdSet) -> Result<(), Graph
 {
     if edges.len() > MAX_EDGES {
         Err(GraphFault::TooManyEdges(number))
-    } else if ids.len() > MAX_VERTICES {
+    } else if ids.is_above(MAX_VERTICES) {
         Err(GraphFault::TooManyVertices(number))
     } else {
         Ok(())

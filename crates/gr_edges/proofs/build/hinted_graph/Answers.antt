@@ -6,7 +6,7 @@ use Rattle.std.proofs.lemmas.List.Elements.{All-push}
 use Rattle.gr_edges.specs.declared.graph.VertexInfo.{VertexInfo}
 use Rattle.gr_edges.specs.Vertices.{vertex_of, HasEnds}
 use Rattle.gr_edges.proofs.Degrees.{ids-unconnected, unconnected-rise, unconnected-again}
-use Rattle.gr_edges.proofs.graph.Graph.from_edges.Goals as goal
+use Rattle.gr_edges.proofs.build.hinted_graph.Goals as goal
 
 pub loop-id-preserved : goal.loop-id-preserved
 loop-id-preserved c = record {

@@ -5,7 +5,7 @@ use Rattle.gr_base.proofs.Rising.{not-falling, prefix-at_point}
 use Rattle.gr_edges.specs.declared.graph.VertexInfo.{VertexInfo}
 use Rattle.gr_edges.specs.Vertices.{id_of}
 use Rattle.gr_edges.proofs.Degrees.{stands-there}
-use Rattle.gr_edges.proofs.build.place_of.Goals as goal
+use Rattle.gr_edges.proofs.places.searched_place.Goals as goal
 
 pub returns : goal.returns
 returns c =
