@@ -1,47 +1,51 @@
-ghost use Rattle.std.specs.Prelude.{◌≡◌, ◌<◌, ◌≤◌, ◌+◌, ◌^◌, ◌==◌, [], OnOk, OnErr, IsSome, IfSome, slice_get, nat_lt, length, map, find};
-ghost use Rattle.std.specs.List.{prefix_len};
-ghost use Rattle.std.specs.Vec.{vec_len, vec_capacity};
+ghost use Rattle.std.specs.Prelude.{◌≡◌, ◌<◌, ◌≤◌, ◌+◌, ◌^◌, ◌==◌, false, [], OnOk, OnErr, IsSome, IfSome, slice_get, length, map, find};
+ghost use Rattle.std.specs.List.{filter};
 ghost use Rattle.gr_base.specs.Rising.{RisesBy, with_item};
 ghost use Rattle.gr_log.specs.Directory.{with_items};
+ghost use Rattle.gr_rows.specs.Changes.{AgreeBut};
 ghost use Rattle.gr_rows.specs.Layers.{CopiesRise, vertex_of, copy_with_value, copy_with_mark};
 
-use gr_base::{OutOfMemory, holds};
+use crate::changes::Changes;
+use crate::layer::{Layer, MOST_COPIES};
+use gr_base::OutOfMemory;
 use gr_numbered::merge;
 use gr_program::{Datum, VertexCopy};
 use std::alloc::Global;
 use std::marker::Model;
 
-/// How many copies a layer holds at most: as many as a number of 32 bits counts.
-const MOST_COPIES: usize = u32::MAX as usize;
-
 /// The copies that a place holds, by rising vertex, in two layers: `stable` counts now, and what is staged goes into
 /// `pending`, which counts from the next `install` on.
 ///
-/// Neither `install` nor `discard` takes memory: `stage_copy` has reserved in each layer the room for the other. A layer
-/// holds fewer than 2^32 copies, and one of a further vertex is refused as one for which there is no memory.
+/// Neither `install` nor `discard` takes memory: `stage_copy` has reserved in each layer the room for the other. They
+/// cost what was staged since the last of them, and the due copies. If a copy was staged, or more values and marks than
+/// there are copies, they go through all copies.
+///
+/// A layer holds fewer than 2^32 copies, and one of a further vertex is refused as one for which there is no memory.
 #[derive(Drop)]
 pub struct Rows<V: Datum> {
-    stable: Vec<VertexCopy<V>>,
-    pending: Vec<VertexCopy<V>>,
+    stable: Layer<V>,
+    pending: Layer<V>,
+    changes: Changes,
 }
 
 impl<V: Datum> Model for Rows<V> {
-    ghost use Rattle.std.specs.Prelude.{◌≤◌, ◌<◌, ◌^◌};
-    ghost use Rattle.std.specs.Vec.{vec_len, vec_capacity};
+    ghost use Rattle.std.specs.Prelude.{◌≡◌, ◌≤◌, ◌<◌, ◌^◌, false, length};
     ghost use Rattle.gr_base.specs.Rising.{RisesBy};
+    ghost use Rattle.gr_rows.specs.Changes.{AgreeBut};
     ghost use Rattle.gr_rows.specs.Layers.{CopyLayers, vertex_of};
 
     ghost Value = { CopyLayers V };
 
-    ghost view = { λ r. record { stable = r.stable.items; pending = r.pending.items } };
+    ghost view = { λ r. record { stable = r.stable.copies; pending = r.pending.copies } };
 
     ghost invariant = { λ r. record {
-      stable_rises : RisesBy vertex_of r.stable.items;
-      pending_rises : RisesBy vertex_of r.pending.items;
-      room_for_install : vec_len r.pending ≤ vec_capacity r.stable;
-      room_for_discard : vec_len r.stable ≤ vec_capacity r.pending;
-      stable_few : vec_len r.stable < 2 ^ 32;
-      pending_few : vec_len r.pending < 2 ^ 32;
+      stable_rises : RisesBy vertex_of r.stable.copies;
+      pending_rises : RisesBy vertex_of r.pending.copies;
+      room_for_install : length r.pending.copies ≤ r.stable.room;
+      room_for_discard : length r.stable.copies ≤ r.pending.room;
+      stable_few : length r.stable.copies < 2 ^ 32;
+      pending_few : length r.pending.copies < 2 ^ 32;
+      agree : r.changes.anywhere ≡ false → AgreeBut r.changes.positions r.pending.copies r.stable.copies;
     } };
 }
 
@@ -51,8 +55,9 @@ impl<V: Datum> Rows<V> {
         ensures { result ≡ record { stable = []; pending = [] } }
     {
         Rows {
-            stable: Vec::new(alloc),
-            pending: Vec::new(alloc),
+            stable: Layer::new(alloc),
+            pending: Layer::new(alloc),
+            changes: Changes::new(alloc),
         }
     }
 
@@ -62,7 +67,7 @@ impl<V: Datum> Rows<V> {
         ensures few { length self.now.stable < 2 ^ 32 }
         ensures rise { CopiesRise self.now }
     {
-        self.stable.len()
+        self.stable.count()
     }
 
     /// How many pending copies there are.
@@ -71,7 +76,7 @@ impl<V: Datum> Rows<V> {
         ensures few { length self.now.pending < 2 ^ 32 }
         ensures rise { CopiesRise self.now }
     {
-        self.pending.len()
+        self.pending.count()
     }
 
     /// The stable copy of a vertex, found in time logarithmic in the number of copies.
@@ -79,7 +84,7 @@ impl<V: Datum> Rows<V> {
         ensures copy { result ≡ find (λ c. c.vertex == v) self.now.stable }
         ensures rise { CopiesRise self.now }
     {
-        copy_of(self.stable.as_slice(), v)
+        self.stable.get(v)
     }
 
     /// The pending copy of a vertex, found in time logarithmic in the number of copies.
@@ -87,7 +92,7 @@ impl<V: Datum> Rows<V> {
         ensures copy { result ≡ find (λ c. c.vertex == v) self.now.pending }
         ensures rise { CopiesRise self.now }
     {
-        copy_of(self.pending.as_slice(), v)
+        self.pending.get(v)
     }
 
     /// The `i`-th stable copy, counted from 0 in rising vertex order.
@@ -96,7 +101,7 @@ impl<V: Datum> Rows<V> {
         ensures next_fits { IfSome result (λ _. i + 1 < 2 ^ 64) }
         ensures rise { CopiesRise self.now }
     {
-        self.stable.get(i).copied()
+        self.stable.at(i)
     }
 
     /// The `i`-th pending copy, counted from 0 in rising vertex order.
@@ -105,7 +110,25 @@ impl<V: Datum> Rows<V> {
         ensures next_fits { IfSome result (λ _. i + 1 < 2 ^ 64) }
         ensures rise { CopiesRise self.now }
     {
-        self.pending.get(i).copied()
+        self.pending.at(i)
+    }
+
+    /// The `i`-th due stable copy, counted from 0 in rising vertex order, found in constant time.
+    pub fn due_at(&self, i: usize) -> Option<VertexCopy<V>>
+        ensures copy { result ≡ slice_get (filter (λ c. c.due) self.now.stable) i }
+        ensures next_fits { IfSome result (λ _. i + 1 < 2 ^ 64) }
+        ensures rise { CopiesRise self.now }
+    {
+        self.stable.due_at(i)
+    }
+
+    /// The `i`-th due pending copy, counted from 0 in rising vertex order, found in constant time.
+    pub fn pending_due_at(&self, i: usize) -> Option<VertexCopy<V>>
+        ensures copy { result ≡ slice_get (filter (λ c. c.due) self.now.pending) i }
+        ensures next_fits { IfSome result (λ _. i + 1 < 2 ^ 64) }
+        ensures rise { CopiesRise self.now }
+    {
+        self.pending.due_at(i)
     }
 
     /// Gives the pending copy of a vertex this value, in time logarithmic in the number of copies. It takes no
@@ -114,16 +137,19 @@ impl<V: Datum> Rows<V> {
         requires known { IsSome (find (λ c. c.vertex == v) self.old.pending) }
         ensures { self.new ≡ record self.old { pending = map (copy_with_value v value) self.old.pending } }
     {
-        set_value(&mut self.pending, v, value);
+        let at = self.pending.set_value(v, value);
+        self.changes.note([at].as_slice());
     }
 
-    /// Makes the pending copies of these vertices due, and no others. The vertices rise. It takes no memory, and for
-    /// each copy a search among the vertices.
+    /// Makes the pending copies of these vertices due, and no others. The vertices rise. It takes no memory. It costs
+    /// the pending copies that were due, and a search for each of these vertices.
     pub fn stage_due(&mut self, due: &[u32])
         requires rise { RisesBy (λ v. v) due.now }
         ensures { self.new ≡ record self.old { pending = map (copy_with_mark due.now) self.old.pending } }
     {
-        mark_due(self.pending.as_mut_slice(), due);
+        self.changes.note(self.pending.due_positions());
+        self.pending.mark_due(due);
+        self.changes.note(self.pending.due_positions());
     }
 
     /// Puts a copy into the pending layer, in the place of that of its vertex if there is one. A copy above all others
@@ -135,9 +161,10 @@ impl<V: Datum> Rows<V> {
         ensures ok { OnOk result (self.new ≡ record self.old { pending = with_item vertex_of copy self.old.pending }) }
         ensures err { OnErr result (self.new ≡ self.old) }
     {
-        let more = (self.pending.len() + 1).saturating_sub(self.stable.len());
-        self.stable.reserve(more)?;
-        put_copy(&mut self.pending, copy)
+        self.changes.note_all();
+        self.changes.reserve(self.pending.count() + 1)?;
+        self.stable.reserve(self.pending.count() + 1)?;
+        self.pending.put(copy)
     }
 
     /// Puts copies of rising vertices into the pending layer, each in the place of that of its vertex if there is one. It
@@ -159,115 +186,46 @@ impl<V: Datum> Rows<V> {
         if all.len() > MOST_COPIES {
             return Err(OutOfMemory);
         }
-        make_room(&mut self.stable, all.len())?;
-        make_room(&mut self.pending, all.len())?;
-        copy_over(&mut self.pending, all.as_slice());
+        self.changes.note_all();
+        self.changes.reserve(all.len())?;
+        self.stable.reserve(all.len())?;
+        self.pending.reserve(all.len())?;
+        self.pending.fill(all.as_slice());
         Ok(())
     }
 
-    /// Makes the stable layer equal to the pending one, in linear time. It takes no memory.
+    /// Makes the stable layer equal to the pending one, in time linear in what was staged. It takes no memory.
     pub fn install(&mut self)
         ensures { self.new ≡ record self.old { stable = self.old.pending } }
     {
-        copy_over(&mut self.stable, self.pending.as_slice());
+        bring(&mut self.stable, &self.pending, &mut self.changes);
     }
 
-    /// Makes the pending layer equal to the stable one, in linear time. It takes no memory.
+    /// Makes the pending layer equal to the stable one, in time linear in what was staged. It takes no memory.
     pub fn discard(&mut self)
         ensures { self.new ≡ record self.old { pending = self.old.stable } }
     {
-        copy_over(&mut self.pending, self.stable.as_slice());
+        bring(&mut self.pending, &self.stable, &mut self.changes);
     }
 }
 
-/// Reserves the room for this many copies in all.
-fn make_room<V: Datum>(copies: &mut Vec<VertexCopy<V>>, count: usize) -> Result<(), OutOfMemory>
-    ensures items { copies.new.items ≡ copies.old.items }
-    ensures room { OnOk result (count ≤ vec_capacity copies.new) }
-    ensures capacity { vec_capacity copies.old ≤ vec_capacity copies.new }
+/// Makes a layer equal to another, and forgets where they differed. It takes no memory.
+fn bring<V: Datum>(into: &mut Layer<V>, from: &Layer<V>, changes: &mut Changes)
+    requires room { length from.now.copies ≤ into.old.room }
+    requires agree { changes.old.anywhere ≡ false → AgreeBut changes.old.positions into.old.copies from.now.copies }
+    ensures copies { into.new.copies ≡ from.now.copies }
+    ensures rises { RisesBy vertex_of into.new.copies }
+    ensures few { length into.new.copies < 2 ^ 32 }
+    ensures len { length into.new.copies ≡ length from.now.copies }
+    ensures from_fits { length from.now.copies ≤ from.now.room }
+    ensures room { into.old.room ≤ into.new.room }
+    ensures changes { changes.new ≡ record { positions = []; anywhere = false } }
 {
-    copies.reserve(count.saturating_sub(copies.len()))?;
-    Ok(())
-}
-
-/// Makes a list of copies equal to another, for which it has room, in linear time.
-fn copy_over<V: Datum>(copies: &mut Vec<VertexCopy<V>>, from: &[VertexCopy<V>])
-    requires { length from.now ≤ vec_capacity copies.old }
-    ensures items { copies.new.items ≡ from.now }
-    ensures capacity { vec_capacity copies.old ≤ vec_capacity copies.new }
-{
-    copies.clear();
-    let _ = copies.extend_from_slice(from);
-}
-
-/// How many copies have a vertex below this one.
-fn place_of<V: Datum>(copies: &[VertexCopy<V>], v: u32) -> usize
-    requires { RisesBy vertex_of copies.now }
-    ensures { result ≡ prefix_len (λ c. nat_lt c.vertex v) copies.now }
-{
-    copies.partition_point(|c| c.vertex < v)
-}
-
-/// The copy of a vertex.
-fn copy_of<V: Datum>(copies: &[VertexCopy<V>], v: u32) -> Option<VertexCopy<V>>
-    requires { RisesBy vertex_of copies.now }
-    ensures { result ≡ find (λ c. c.vertex == v) copies.now }
-{
-    let at = place_of(copies, v);
-    if at < copies.len() && copies[at].vertex == v {
-        Some(copies[at])
-    } else {
-        None
+    if changes.anywhere() {
+        into.copy_from(from);
+        changes.clear();
+        return;
     }
-}
-
-/// Gives the copy of a vertex this value.
-fn set_value<V: Datum>(copies: &mut Vec<VertexCopy<V>>, v: u32, value: V)
-    requires rises { RisesBy vertex_of copies.old.items }
-    requires known { IsSome (find (λ c. c.vertex == v) copies.old.items) }
-    ensures value { copies.new.items ≡ map (copy_with_value v value) copies.old.items }
-    ensures rises { RisesBy vertex_of copies.new.items }
-    ensures len { vec_len copies.new ≡ vec_len copies.old }
-    ensures capacity { vec_capacity copies.new ≡ vec_capacity copies.old }
-{
-    let at = place_of(copies.as_slice(), v);
-    let copy = &mut copies[at];
-    copy.value = Some(value);
-}
-
-/// Makes the copies of these vertices due, and no others.
-fn mark_due<V: Datum>(copies: &mut [VertexCopy<V>], due: &[u32])
-    requires rises { RisesBy vertex_of copies.old }
-    requires rise { RisesBy (λ v. v) due.now }
-    ensures due { copies.new ≡ map (copy_with_mark due.now) copies.old }
-    ensures rises { RisesBy vertex_of copies.new }
-{
-    for copy in copies.iter_mut() {
-        copy.due = holds(due, copy.vertex);
-    }
-}
-
-/// Puts a copy at its vertex, in the place of that of its vertex if there is one. A full layer takes no further vertex.
-fn put_copy<V: Datum>(
-    copies: &mut Vec<VertexCopy<V>>,
-    copy: VertexCopy<V>,
-) -> Result<(), OutOfMemory>
-    requires rises { RisesBy vertex_of copies.old.items }
-    requires few { vec_len copies.old < 2 ^ 32 }
-    ensures ok { OnOk result (copies.new.items ≡ with_item vertex_of copy copies.old.items) }
-    ensures err { OnErr result (copies.new.items ≡ copies.old.items) }
-    ensures rises { RisesBy vertex_of copies.new.items }
-    ensures len { vec_len copies.new ≤ vec_len copies.old + 1 }
-    ensures few { vec_len copies.new < 2 ^ 32 }
-    ensures capacity { vec_capacity copies.old ≤ vec_capacity copies.new }
-{
-    let at = place_of(copies.as_slice(), copy.vertex);
-    if at < copies.len() && copies[at].vertex == copy.vertex {
-        copies[at] = copy;
-    } else if copies.len() < MOST_COPIES {
-        copies.insert(at, copy)?;
-    } else {
-        return Err(OutOfMemory);
-    }
-    Ok(())
+    into.catch_up(from, changes.as_slice());
+    changes.clear();
 }
