@@ -1,1 +1,2 @@
+pub mod SendersThere
 pub mod StandsOnce

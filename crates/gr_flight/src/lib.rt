@@ -3,6 +3,8 @@
 
 mod flight;
 mod inbox;
+mod newest;
+mod positions;
 
 pub use flight::Flight;
 pub use inbox::Inbox;

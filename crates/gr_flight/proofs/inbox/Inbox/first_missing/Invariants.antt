@@ -3,7 +3,7 @@ use Rattle.std.specs.List.{list_any}
 use Rattle.gr_base.specs.Places.{IsPlaces}
 use Rattle.gr_base.specs.Rising.{has}
 use Rattle.gr_batch.specs.Bodies.{is_of}
-use Rattle.gr_flight.proofs.inbox.Inbox.has_all.Given as goal
+use Rattle.gr_flight.proofs.inbox.Inbox.first_missing.Given as goal
 
 abbrev pub invariant-loop-p : goal.invariant-loop-p
 invariant-loop-p g l = record {
