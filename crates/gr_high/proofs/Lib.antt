@@ -1,3 +1,4 @@
+pub mod DueCopies
 pub mod Joined
 pub mod Lines
 mod Selected

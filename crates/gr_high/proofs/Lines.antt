@@ -1,7 +1,7 @@
 -- The parts of a Gather body.
 use Rattle.std.proofs.Common.{◌≡◌, ◌∙◌, ℕ, Bool, true, false, cond, IsTrue, List, Some, None, ◌&&◌, refl, sym, ap, subst}
 use Rattle.std.specs.Prelude.{IsSomeAnd, ◌==◌}
-use Rattle.std.specs.List.{All, list_any}
+use Rattle.std.specs.List.{All, list_any, filter_map}
 use Rattle.gr_base.specs.declared.records.NumberedEdge.{NumberedEdge}
 use Rattle.gr_base.specs.Rising.{RisesBy}
 use Rattle.gr_program.specs.declared.copy.VertexCopy.{VertexCopy}
@@ -11,6 +11,7 @@ use Rattle.gr_batch.specs.declared.body.Part.{Part}
 use Rattle.gr_rules.specs.Rows.{row, into}
 use Rattle.gr_rules.specs.Round.{own_sum, gather_line, gather_body}
 use Rattle.gr_high.specs.Parts.{is_due_high}
+use Rattle.gr_high.proofs.DueCopies.{due_copies, filter_map-due_copies}
 use Rattle.gr_high.proofs.Selected.{All-filter_map, filter_map-rises, find-each}
 
 given : {X : Type 0} (b : Bool) (y x : X) → cond b (Some y) None ≡ Some x → (b ≡ true) × (y ≡ x)
@@ -35,6 +36,13 @@ module _ {V A : Type 0} (P : Program V A) (theta q : ℕ) (rows : List (VertexCo
 
   line-due_high : (c : VertexCopy V) (x : Part A) → gather_line P theta q rows arcs c ≡ Some x → IsTrue (is_due_high theta c)
   line-due_high c x e = first-two c.due (is_high theta c.indeg) ((c.master == q) && list_any (into c.vertex) arcs) (given (is_sent c) (part c) x e).0
+
+  -- the copies that are not due bring no part
+  pub gather_body-due : gather_body P theta q rows arcs ≡ filter_map (gather_line P theta q rows arcs) (due_copies rows)
+  unfolding gather_body
+  gather_body-due =
+      sym (filter_map-due_copies (gather_line P theta q rows arcs)
+      (λ c off. ap (λ b. cond (b && (is_high theta c.indeg && ((c.master == q) && list_any (into c.vertex) arcs))) (Some (part c)) None) off) rows)
 
   pub gather_body-rises : RisesBy (λ (c : VertexCopy V). c.vertex) rows → RisesBy (λ (x : Part A). x.vertex) (gather_body P theta q rows arcs)
   unfolding gather_body

@@ -4,6 +4,3 @@
 mod partial;
 
 pub use partial::{join_partials, partials};
-
-#[cfg(test)]
-mod tests;

@@ -18,8 +18,8 @@ use std::alloc::Global;
 /// The parts of sums that a place sends to the place `to` before new values are computed: one for each vertex that is
 /// due, has more than `theta` edges into it, is mastered by `to` and has a stable edge into it here.
 ///
-/// It scans the copies, and takes for each due high vertex that `to` masters a binary search among the edges, and where
-/// that finds one what the sum costs. The one error is that memory ran out.
+/// It goes through the due copies only. For each due high vertex that `to` masters it costs a binary search among the
+/// edges, and if that finds one, what the sum costs. The one error is that memory ran out.
 pub fn partials<P: VertexProgram>(
     alloc: Global,
     program: &P,
@@ -36,7 +36,7 @@ pub fn partials<P: VertexProgram>(
 {
     let mut parts = Items::new(alloc);
     let mut i = 0;
-    while let Some(copy) = rows.at(i) {
+    while let Some(copy) = rows.due_at(i) {
         if let Some(part) = part_of(program, rows, arcs, theta, to, &copy) {
             parts.push(part)?;
         }

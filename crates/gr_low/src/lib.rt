@@ -4,6 +4,3 @@
 mod gather;
 
 pub use gather::gather_low;
-
-#[cfg(test)]
-mod tests;

@@ -1,6 +1,4 @@
 pub mod Called
-pub mod Empties
-pub mod Fits
 pub mod Known
 pub mod Others
 pub mod Passed

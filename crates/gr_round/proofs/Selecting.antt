@@ -13,6 +13,7 @@ use Rattle.gr_program.specs.Program.{Program}
 use Rattle.gr_batch.specs.declared.body.Body.{Body}
 use Rattle.gr_rules.specs.Rows.{is_hidden}
 use Rattle.gr_rules.specs.Round.{new_value, new_values, update_body}
+use Rattle.gr_high.proofs.DueCopies.{due_copies, filter_map-due_copies}
 
 module _ {X Y : Type 0} (t : X → Bool) (f : X → Y) where
   -- what f gives of the elements that pass
@@ -31,6 +32,16 @@ module _ {V : Type 0} where
 
   abbrev pub is_updated : ℕ → Bool → ℕ → VertexCopy V → Bool
   is_updated q forgetful p c = (c.due && (c.master == p)) && (has c.holders q && not (is_hidden forgetful c))
+
+  -- a test that only due copies pass chooses the same from all copies
+  pub chosen-due_copies : {Y : Type 0} (t : VertexCopy V → Bool) (f : VertexCopy V → Y) → ((c : VertexCopy V) → c.due ≡ false → t c ≡ false) → (rows : List (VertexCopy V)) → chosen t f (due_copies rows) ≡ chosen t f rows
+  chosen-due_copies t f off rows = filter_map-due_copies (λ c. cond (t c) (Some (f c)) None) (λ c idle. ap (λ b. cond b (Some (f c)) None) (off c idle)) rows
+
+  pub own-not_due : (p : ℕ) (c : VertexCopy V) → c.due ≡ false → is_own p c ≡ false
+  own-not_due p c idle = ap (λ b. b && (c.master == p)) idle
+
+  pub updated-not_due : (q : ℕ) (forgetful : Bool) (p : ℕ) (c : VertexCopy V) → c.due ≡ false → is_updated q forgetful p c ≡ false
+  updated-not_due q forgetful p c idle = ap (λ b. b && (has c.holders q && not (is_hidden forgetful c))) (own-not_due p c idle)
 
   module _ {A : Type 0} (P : Program V A) (rows : List (VertexCopy V)) (arcs : List NumberedEdge) (gathers : List (Body V A)) where
     pub own-are : (p : ℕ) → new_values P p rows arcs gathers ≡ chosen (is_own p) (new_value P rows arcs gathers) rows

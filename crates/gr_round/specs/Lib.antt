@@ -1,4 +1,5 @@
 pub mod Acts
+pub mod Kept
 pub mod Line
 pub mod Needs
 pub mod Todo

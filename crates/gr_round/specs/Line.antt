@@ -34,3 +34,14 @@ is_of_rebuild _ = false
 -- a place reports once the end is computed
 abbrev pub is_line : RoundLine → Bool
 is_line l = not l.reported || (l.exchange.computed && is_end l.exchange.stage)
+
+-- whether the new values of a round are computed, by its exchange
+abbrev pub is_past_update : Stage → Bool → Bool
+is_past_update stage.Update computed = computed
+is_past_update stage.Signal computed = true
+is_past_update stage.Call computed = true
+is_past_update stage.End computed = true
+is_past_update _ computed = false
+
+abbrev pub has_new_values : Exchange → Bool
+has_new_values x = is_past_update x.stage x.computed

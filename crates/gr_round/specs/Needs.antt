@@ -1,7 +1,8 @@
 -- What the work of a place in a round needs of its copies, its edges and what it was sent.
-use Rattle.std.specs.Prelude.{◌≡◌, ℕ, List, [], IsTrue, IsSome, IfSome}
+use Rattle.std.specs.Prelude.{◌≡◌, ◌==◌, ◌&&◌, ℕ, Bool, true, List, Option, Some, None, IsTrue, IsSome, IfSome}
 use Rattle.std.specs.List.{All}
 use Rattle.gr_base.specs.Rising.{RisesBy}
+use Rattle.gr_base.specs.declared.records.NumberedEdge.{NumberedEdge}
 use Rattle.gr_program.specs.declared.copy.VertexCopy.{VertexCopy}
 use Rattle.gr_program.specs.Program.{Program}
 use Rattle.gr_batch.specs.declared.batch.Batch.{Batch}
@@ -10,10 +11,26 @@ use Rattle.gr_batch.specs.declared.stage.Stage.TheVariants as stage
 use Rattle.gr_batch.specs.Bodies.{parts_of, values_of, signals_of, calls_of}
 use Rattle.gr_rules.specs.Rows.{row}
 use Rattle.gr_rules.specs.Inbox.{bodies}
+use Rattle.gr_rules.specs.Round.{new_value}
 
 -- every value that is kept is one of the program
 abbrev pub ValuesFit : {V A : Type 0} → Program V A → List (VertexCopy V) → Type 0
 ValuesFit P rows = All (λ c. IfSome c.value (λ x. IsTrue (P.is_value x))) rows
+
+-- a copy d has the new value of the vertex of c, by the stable copies, the edges and the Gather bodies; it is one of the program
+pub record HasNewValue {V A : Type 0} (P : Program V A) (rows : List (VertexCopy V)) (arcs : List NumberedEdge) (gathers : List (Body V A)) (c d : VertexCopy V) : Type 0 where
+  pub value : d.value ≡ Some (new_value P rows arcs gathers c).value
+  pub kept : IsTrue (P.is_value (new_value P rows arcs gathers c).value)
+
+-- the value of a pending copy, if the new values are staged
+abbrev pub staged_in : {V : Type 0} → Bool → Option (VertexCopy V) → Option V
+staged_in true (Some c) = c.value
+staged_in _ _ = None
+
+-- the new values that p computes are staged: each due vertex that p masters has its new value in its pending copy
+abbrev pub NewValuesAreStaged : {V A : Type 0} → Program V A → ℕ → List (VertexCopy V) → List NumberedEdge → List (Body V A) → List (VertexCopy V) → Type 0
+NewValuesAreStaged P p rows arcs gathers pending =
+    All (λ c. IsTrue (c.due && (c.master == p)) → IfSome (row pending c.vertex) (HasNewValue P rows arcs gathers c)) rows
 
 -- the parts of a Gather body: the vertices rise, and each sum is one of the program
 pub record PartsFit {V A : Type 0} (P : Program V A) (b : Body V A) : Type 0 where
@@ -24,20 +41,6 @@ pub record PartsFit {V A : Type 0} (P : Program V A) (b : Body V A) : Type 0 whe
 pub record UpdateFits {V A : Type 0} (rows : List (VertexCopy V)) (b : Body V A) : Type 0 where
   pub rise : RisesBy (λ n. n.vertex) (values_of b)
   pub known : All (λ n. IsSome (row rows n.vertex)) (values_of b)
-
--- a body that a place may be sent in any stage of a round, with these copies
-pub record BodyFits {V A : Type 0} (P : Program V A) (rows : List (VertexCopy V)) (b : Body V A) : Type 0 where
-  pub parts : PartsFit P b
-  pub values : UpdateFits rows b
-  pub signals : RisesBy (λ v. v) (signals_of b)
-  pub calls : RisesBy (λ v. v) (calls_of b)
-
--- a body without items
-pub record IsEmptyBody {V A : Type 0} (b : Body V A) : Type 0 where
-  pub parts : parts_of b ≡ []
-  pub values : values_of b ≡ []
-  pub signals : signals_of b ≡ []
-  pub calls : calls_of b ≡ []
 
 -- what the other parties sent in epoch e
 module _ {V A : Type 0} (inbox : List (Batch V A)) (e : ℕ) (others : List ℕ) where

@@ -1,10 +1,13 @@
-ghost use Rattle.std.specs.Prelude.{◌≡◌, ◌<◌, ◌↔◌, ◌^◌, map, length, IsTrue, IsOk, IfOk, OnOk, OnErr};
+ghost use Rattle.std.specs.Prelude.{◌≡◌, ◌<◌, ◌↔◌, map, IsTrue, IsOk, IfOk, OnOk, OnErr};
 ghost use Rattle.gr_base.specs.Places.{without_place};
 ghost use Rattle.gr_rows.specs.Layers.{vertex_of};
 ghost use Rattle.gr_rules.specs.Todo.{Todo};
 ghost use Rattle.gr_low.specs.Sources.{SourcesReady};
 ghost use Rattle.gr_round.specs.Todo.{next_at, is_told, AwaitsSending};
-ghost use Rattle.gr_round.specs.Needs.{ValuesFit, GathersFit, UpdatesFit, SignalsRise, CallsRise};
+ghost use Rattle.gr_rules.specs.Inbox.{bodies};
+ghost use Rattle.gr_round.specs.Kept.{takes_targets, targets_at};
+ghost use Rattle.gr_round.specs.Line.{has_new_values};
+ghost use Rattle.gr_round.specs.Needs.{ValuesFit, GathersFit, UpdatesFit, SignalsRise, CallsRise, NewValuesAreStaged};
 ghost use Rattle.gr_round.specs.Acts.{line_after, pending_after, answer_to};
 
 use crate::body::body_to;
@@ -20,6 +23,7 @@ use gr_batch::{Batch, Stage};
 use gr_flight::Inbox;
 use gr_program::{Datum, VertexProgram};
 use gr_rows::Rows;
+use gr_signal::Targets;
 use std::alloc::Global;
 
 /// What a place did in a round, or tells: a stage is computed; a batch is to be sent; the place is ready, with the
@@ -46,12 +50,15 @@ impl PlaceRound {
     /// `Ready`, where each computed stage other than the end has a party left to send to, as `note_sent` leaves it.
     /// These three take no memory and are never refused.
     ///
-    /// Nothing that was computed is kept: the new values of the due vertices that the place masters, each a sum over the
-    /// edges into it, are computed once for the staging and once for each batch from Update on.
+    /// The new values of the due vertices that the place masters, each a sum over the edges into it, are computed once in a
+    /// round. From then on they are read from the pending copies.
+    ///
+    /// `targets` are those of `PlaceRound::targets`, if `takes_targets` says that the work takes them. They may be anything
+    /// otherwise.
     ///
     /// # Errors
     ///
-    /// `OutOfMemory` where memory runs out; then all is as it was.
+    /// `OutOfMemory` if memory runs out. Then everything is as it was.
     pub fn act<P: VertexProgram>(
         &mut self,
         alloc: Global,
@@ -61,6 +68,7 @@ impl PlaceRound {
         rows: &mut Rows<P::Value>,
         arcs: &Arcs,
         inbox: &Inbox<P::Value, P::Acc>,
+        targets: &Targets,
     ) -> Result<Act<P::Value, P::Acc>, OutOfMemory>
         requires sources { SourcesReady (P.program_of program.now) rows.old.stable arcs.now.stable }
         requires values { ValuesFit (P.program_of program.now) rows.old.stable }
@@ -69,6 +77,8 @@ impl PlaceRound {
         requires signals { SignalsRise inbox.now view.now.epoch (without_place view.now.parties me) }
         requires calls { CallsRise inbox.now view.now.epoch (without_place view.now.parties me) }
         requires pending { map vertex_of rows.old.pending ≡ map vertex_of rows.old.stable }
+        requires staged { IsTrue (has_new_values self.old.exchange) → NewValuesAreStaged (P.program_of program.now) me rows.old.stable arcs.now.stable (bodies inbox.now view.now.epoch Stage.Gather (without_place view.now.parties me)) rows.old.pending }
+        requires targets { IsTrue (takes_targets self.old.exchange.stage (next_at me view.now inbox.now self.old)) → targets.now ≡ targets_at (P.program_of program.now) me view.now.epoch (without_place view.now.parties me) inbox.now rows.old.stable arcs.now.stable }
         ensures answer { IfOk result (λ act. act ≡ answer_to (P.program_of program.now) me view.now inbox.now arcs.now.stable self.old rows.old (next_at me view.now inbox.now self.old)) }
         ensures line { OnOk result (self.new ≡ line_after (without_place view.now.parties me) self.old (next_at me view.now inbox.now self.old)) }
         ensures rows { OnOk result (rows.new ≡ record rows.old { pending = pending_after (P.program_of program.now) me view.now inbox.now arcs.now.stable self.old rows.old (next_at me view.now inbox.now self.old) }) }
@@ -82,11 +92,12 @@ impl PlaceRound {
             place: me,
             epoch: view.epoch,
             others: others_of(view.parties, me),
+            has_new_values: self.has_new_values(),
         };
         match self.next_step(me, view, inbox) {
             Step::Compute => {
                 let stage = self.stage();
-                stage_rows(alloc, stage, &party, program, rows, arcs, inbox)?;
+                stage_rows(alloc, stage, &party, program, rows, arcs, inbox, targets)?;
                 self.note_computed(party.others);
                 Ok(Act::Computed(stage))
             }
@@ -101,6 +112,7 @@ impl PlaceRound {
                     rows,
                     arcs,
                     inbox,
+                    targets,
                 )?;
                 Ok(Act::Sent(Batch {
                     serial: view.serial,

@@ -6,6 +6,7 @@ mod act;
 mod body;
 mod brought;
 mod due;
+mod kept;
 mod line;
 mod next;
 mod staging;
@@ -18,6 +19,3 @@ pub use due::due_count;
 pub use line::{PlaceRound, is_end, others_of};
 pub use step::Step;
 pub use view::RoundView;
-
-#[cfg(test)]
-mod tests;

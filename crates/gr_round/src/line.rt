@@ -3,7 +3,8 @@ ghost use Rattle.gr_base.specs.Places.{without_place};
 ghost use Rattle.gr_batch.specs.Stages.{is_end, stage_after};
 ghost use Rattle.gr_rules.specs.Exchange.{needed, unsent, passed, computed, sent_to};
 ghost use Rattle.gr_rules.specs.Todo.{Todo, compute_or_wait, send_or_rest, is_act};
-ghost use Rattle.gr_round.specs.Line.{line_before, first_line};
+ghost use Rattle.gr_round.specs.Kept.{is_of_targets, takes_targets};
+ghost use Rattle.gr_round.specs.Line.{line_before, first_line, has_new_values};
 ghost use Rattle.gr_round.specs.Todo.{todo_of, place_to, next_at, todo_in_rebuild, AwaitsSending};
 
 use crate::step::Step;
@@ -17,7 +18,7 @@ use std::marker::Model;
 /// How far a place is in a round, or in a rebuild: the stage, whether it is computed, the places that its batches were
 /// sent to, and whether the place has reported in this epoch.
 ///
-/// No list is kept: what was sent and staged is computed anew from copies, edges and inbox.
+/// What is sent and staged is not kept here: it is worked out from copies, edges and inbox.
 #[derive(Debug, Drop)]
 pub struct PlaceRound {
     stage: Stage,
@@ -28,6 +29,7 @@ pub struct PlaceRound {
 
 impl Model for PlaceRound {
     ghost use Rattle.std.specs.Prelude.{IsTrue};
+    ghost use Rattle.gr_round.specs.Kept.{is_of_targets, takes_targets};
     ghost use Rattle.gr_round.specs.Line.{RoundLine, is_line};
 
     ghost Value = { RoundLine };
@@ -89,6 +91,23 @@ impl PlaceRound {
         }
     }
 
+    /// Whether what the place does next takes the targets of what woke: it sends a Signal or a Call batch, or computes the
+    /// end. It takes no memory, and a search of the inbox for each other party.
+    pub fn takes_targets<V: Datum, A: Datum>(
+        &self,
+        me: u8,
+        view: &RoundView,
+        inbox: &Inbox<V, A>,
+    ) -> bool
+        ensures { result ≡ takes_targets self.now.exchange.stage (next_at me view.now inbox.now self.now) }
+    {
+        match self.next_step(me, view, inbox) {
+            Step::Send(_) => is_of_targets(self.stage),
+            Step::Compute => is_end(self.stage),
+            _ => false,
+        }
+    }
+
     /// What the place does next in a rebuild of an epoch that it has adopted: like in a round, but it appends to its log
     /// before it reports. It takes no memory, and a search of the inbox for each other party.
     pub fn next_in_rebuild<V: Datum, A: Datum>(
@@ -144,20 +163,15 @@ impl PlaceRound {
         }
     }
 
-    /// Whether `note_sent` has something to note.
-    #[cfg(test)]
-    pub(crate) fn can_note(&self, me: u8, parties: PlaceSet) -> bool
-        ensures computed { IsTrue result → IsTrue self.now.exchange.computed }
-        ensures open { IsTrue result → is_end self.now.exchange.stage ≡ false }
-        ensures left { IsTrue result → IsSome (unsent (without_place parties me) self.now.exchange.sent) }
+    /// Whether the new values are computed, and so staged in the pending copies.
+    pub(crate) fn has_new_values(&self) -> bool
+        ensures { result ≡ has_new_values self.now.exchange }
     {
-        if !self.computed {
-            return false;
+        match self.stage {
+            Stage::Update => self.computed,
+            Stage::Signal | Stage::Call | Stage::End => true,
+            Stage::Gather | Stage::Ask | Stage::Grant => false,
         }
-        if is_end(self.stage) {
-            return false;
-        }
-        unsent(others_of(parties, me), self.sent).is_some()
     }
 
     /// The stage.
@@ -276,6 +290,16 @@ fn stage_after(stage: Stage) -> Stage
     }
 }
 
+/// Whether the batches of a stage are made of the targets of what woke.
+fn is_of_targets(stage: Stage) -> bool
+    ensures { result ≡ is_of_targets stage }
+{
+    match stage {
+        Stage::Signal | Stage::Call => true,
+        _ => false,
+    }
+}
+
 /// Whether it is the end, of a round or of a rebuild.
 pub fn is_end(stage: Stage) -> bool
     ensures { result ≡ is_end stage }
@@ -291,12 +315,5 @@ fn unsent(others: PlaceSet, sent: PlaceSet) -> Option<u8>
     ensures unsent { result ≡ unsent others sent }
     ensures place { IfSome result (λ q. q < 64) }
 {
-    for p in 0..64u8 {
-        if others.has(p) {
-            if !sent.has(p) {
-                return Some(p);
-            }
-        }
-    }
-    None
+    others.difference(sent).first()
 }

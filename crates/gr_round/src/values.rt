@@ -1,10 +1,10 @@
 ghost use Rattle.std.specs.Prelude.{◌≡◌, ◌<◌, ◌==◌, ◌&&◌, not, IsTrue, IfOk, IfSome};
 ghost use Rattle.gr_base.specs.Rising.{RisesBy, has};
-ghost use Rattle.gr_rules.specs.Rows.{is_hidden};
+ghost use Rattle.gr_rules.specs.Rows.{row, is_hidden};
 ghost use Rattle.gr_rules.specs.Inbox.{bodies};
 ghost use Rattle.gr_rules.specs.Round.{whole_sum, old_value, new_value, new_values, update_body};
 ghost use Rattle.gr_low.specs.Sources.{SourcesReady};
-ghost use Rattle.gr_round.specs.Needs.{ValuesFit, GathersFit};
+ghost use Rattle.gr_round.specs.Needs.{ValuesFit, GathersFit, HasNewValue, NewValuesAreStaged, staged_in};
 
 use crate::brought::parts_from;
 use gr_arcs::Arcs;
@@ -17,15 +17,16 @@ use gr_program::{Datum, VertexCopy, VertexProgram};
 use gr_rows::Rows;
 use std::alloc::Global;
 
-/// A place in an epoch, and the other parties.
+/// A place in an epoch, the other parties, and whether its new values are computed and staged.
 #[derive(Drop)]
 pub(crate) struct Party {
     pub(crate) place: u8,
     pub(crate) epoch: u64,
     pub(crate) others: PlaceSet,
+    pub(crate) has_new_values: bool,
 }
 
-/// The new values of the due vertices that the place masters, in rising order.
+/// The new values of the due vertices that the place masters, in rising order. It goes through the due copies only.
 pub(crate) fn own_values<P: VertexProgram>(
     alloc: Global,
     party: &Party,
@@ -37,12 +38,13 @@ pub(crate) fn own_values<P: VertexProgram>(
     requires sources { SourcesReady (P.program_of program.now) rows.now.stable arcs.now.stable }
     requires values { ValuesFit (P.program_of program.now) rows.now.stable }
     requires gathers { GathersFit inbox.now party.now.epoch party.now.others (P.program_of program.now) }
+    requires staged { IsTrue party.now.has_new_values → NewValuesAreStaged (P.program_of program.now) party.now.place rows.now.stable arcs.now.stable (bodies inbox.now party.now.epoch Stage.Gather party.now.others) rows.now.pending }
     ensures values { IfOk result (λ news. news ≡ new_values (P.program_of program.now) party.now.place rows.now.stable arcs.now.stable (bodies inbox.now party.now.epoch Stage.Gather party.now.others)) }
     ensures rise { IfOk result (λ news. RisesBy (λ n. n.vertex) news) }
 {
     let mut news = Items::new(alloc);
     let mut i = 0;
-    while let Some(copy) = rows.at(i) {
+    while let Some(copy) = rows.due_at(i) {
         if is_own(party, &copy) {
             news.push(new_value(party, program, rows, arcs, inbox, &copy))?;
         }
@@ -51,8 +53,8 @@ pub(crate) fn own_values<P: VertexProgram>(
     Ok(news)
 }
 
-/// The Update body to the place `to`: the new values of those vertices that it holds, but for those without readers
-/// under a forgetful program.
+/// The Update body to the place `to`: the new values of those vertices that it holds, except those without readers
+/// under a forgetful program. It goes through the due copies only.
 pub(crate) fn update_body<P: VertexProgram>(
     alloc: Global,
     to: u8,
@@ -66,11 +68,12 @@ pub(crate) fn update_body<P: VertexProgram>(
     requires sources { SourcesReady (P.program_of program.now) rows.now.stable arcs.now.stable }
     requires values { ValuesFit (P.program_of program.now) rows.now.stable }
     requires gathers { GathersFit inbox.now party.now.epoch party.now.others (P.program_of program.now) }
+    requires staged { IsTrue party.now.has_new_values → NewValuesAreStaged (P.program_of program.now) party.now.place rows.now.stable arcs.now.stable (bodies inbox.now party.now.epoch Stage.Gather party.now.others) rows.now.pending }
     ensures { IfOk result (λ news. news ≡ update_body (P.program_of program.now) party.now.place to rows.now.stable arcs.now.stable (bodies inbox.now party.now.epoch Stage.Gather party.now.others)) }
 {
     let mut news = Items::new(alloc);
     let mut i = 0;
-    while let Some(copy) = rows.at(i) {
+    while let Some(copy) = rows.due_at(i) {
         if is_updated(to, P::FORGETFUL, party, &copy) {
             news.push(new_value(party, program, rows, arcs, inbox, &copy))?;
         }
@@ -107,7 +110,7 @@ fn is_hidden<V: Datum>(forgetful: bool, copy: &VertexCopy<V>) -> bool
     forgetful && copy.outdeg == 0
 }
 
-/// The new value of a copy's vertex.
+/// The new value of a copy's vertex. If the new values are staged, it is that of the pending copy.
 fn new_value<P: VertexProgram>(
     party: &Party,
     program: &P,
@@ -119,15 +122,34 @@ fn new_value<P: VertexProgram>(
     requires sources { SourcesReady (P.program_of program.now) rows.now.stable arcs.now.stable }
     requires value { IfSome copy.now.value (λ x. IsTrue ((P.program_of program.now).is_value x)) }
     requires gathers { GathersFit inbox.now party.now.epoch party.now.others (P.program_of program.now) }
+    requires staged { IsTrue party.now.has_new_values → IfSome (row rows.now.pending copy.now.vertex) (HasNewValue (P.program_of program.now) rows.now.stable arcs.now.stable (bodies inbox.now party.now.epoch Stage.Gather party.now.others) copy.now) }
     ensures { result ≡ new_value (P.program_of program.now) rows.now.stable arcs.now.stable (bodies inbox.now party.now.epoch Stage.Gather party.now.others) copy.now }
 {
-    let sum = whole_sum(party, program, rows, arcs, inbox, copy.vertex);
     let old = old_value(program, copy);
-    let value = program.apply(copy.vertex, old, sum);
+    let value = match staged_value(party, rows, copy.vertex) {
+        Some(value) => value,
+        None => {
+            let sum = whole_sum(party, program, rows, arcs, inbox, copy.vertex);
+            program.apply(copy.vertex, old, sum)
+        }
+    };
     NewValue {
         vertex: copy.vertex,
         value,
         wake: program.wakes(old, value),
+    }
+}
+
+/// The value of the pending copy of a vertex, if the new values are staged.
+fn staged_value<V: Datum>(party: &Party, rows: &Rows<V>, v: u32) -> Option<V>
+    ensures { result ≡ staged_in party.now.has_new_values (row rows.now.pending v) }
+{
+    if !party.has_new_values {
+        return None;
+    }
+    match rows.pending(v) {
+        Some(copy) => copy.value,
+        None => None,
     }
 }
 

@@ -1,6 +1,7 @@
-pub mod Chosen
+pub mod Ends
 pub mod Lows
 pub mod Marks
+pub mod Picked
 pub mod Selected
-pub mod Targets
+pub mod Signalled
 pub mod Updates

@@ -1,19 +1,33 @@
 -- What a place signals and calls, by the vertices that it keeps in lists.
-use Rattle.std.specs.Prelude.{ℕ, Bool, ◌&&◌, ◌==◌, List}
-use Rattle.std.specs.List.{list_any}
+use Rattle.std.specs.Prelude.{ℕ, Bool, ◌&&◌, ◌==◌, List, map}
+use Rattle.std.specs.List.{list_any, filter}
 use Rattle.gr_base.specs.Rising.{has}
 use Rattle.gr_base.specs.declared.records.NumberedEdge.{NumberedEdge}
 use Rattle.gr_program.specs.declared.copy.VertexCopy.{VertexCopy}
-use Rattle.gr_rules.specs.Round.{vertices_where}
+use Rattle.gr_batch.specs.declared.body.NewValue.{NewValue}
+use Rattle.gr_rules.specs.Round.{is_signalled, vertices_where}
+use Rattle.gr_signal.specs.declared.target.Target.{Target}
 
 -- whether an edge leads to v from a listed vertex
 abbrev pub is_target : List ℕ → List NumberedEdge → ℕ → Bool
 is_target woken arcs v = list_any (λ a. (a.edge.dst == v) && has woken a.edge.src) arcs
 
--- the targets that q masters of the edges from listed vertices
-unfoldable pub targets_at : {V : Type 0} → List ℕ → List (VertexCopy V) → List NumberedEdge → ℕ → List ℕ
-targets_at woken rows arcs q = vertices_where (λ c. (c.master == q) && is_target woken arcs c.vertex) rows
+-- a copy as a target: its vertex and its master
+abbrev pub target_of : {V : Type 0} → VertexCopy V → Target
+target_of c = record { vertex = c.vertex; master = c.master }
+
+-- the targets of the edges of a place from the vertices that woke, by the new values that it knows
+unfoldable pub signalled : {V : Type 0} → List (NewValue V) → List (VertexCopy V) → List NumberedEdge → List Target
+signalled news rows arcs = map target_of (filter (λ c. is_signalled news arcs c.vertex) rows)
+
+-- those that q masters
+abbrev pub signals_to : List Target → ℕ → List ℕ
+signals_to targets q = map (λ t. t.vertex) (filter (λ t. t.master == q) targets)
 
 -- the listed vertices whose copy names q among its holders
 unfoldable pub called_at : {V : Type 0} → List ℕ → List (VertexCopy V) → ℕ → List ℕ
 called_at next rows q = vertices_where (λ c. has next c.vertex && has c.holders q) rows
+
+-- whether a copy is of a listed vertex and names q as its master
+abbrev pub is_mastered : {V : Type 0} → List ℕ → ℕ → VertexCopy V → Bool
+is_mastered next q c = (c.master == q) && has next c.vertex

@@ -1,8 +1,9 @@
-use Rattle.std.proofs.Common.{◌≡◌, ◌∙◌, ◌||◌, ℕ, eqb, sym, ap, subst, arith}
+use Rattle.std.proofs.Common.{◌≡◌, ◌∙◌, ◌||◌, ◌++◌, flat_map, ℕ, eqb, sym, ap, subst, arith}
 use Rattle.gr_base.specs.Rising.{RisesBy, has}
 use Rattle.gr_batch.specs.declared.stage.Stage.TheVariants as stage
-use Rattle.gr_batch.specs.Bodies.{calls_of}
-use Rattle.gr_rules.specs.AtPlace.{own_next}
+use Rattle.gr_batch.specs.Bodies.{signals_of, calls_of}
+use Rattle.gr_rules.specs.Inbox.{bodies}
+use Rattle.gr_signal.specs.Signals.{signals_to}
 use Rattle.gr_round.proofs.Known.{below-none, below-passed, below-skipped, below-all, passes_below}
 use Rattle.gr_round.proofs.Senders.{fits-one, items-fit}
 use Rattle.gr_round.proofs.next.all_next.Goals as goal
@@ -10,10 +11,9 @@ use Rattle.gr_round.proofs.next.all_next.Goals.{then-has+in_ok-take_signals, els
 
 pub loop-p-init : goal.loop-p-init
 loop-p-init g c =
-    let p = g.P.VertexProgram.program_of c.args.program.now in
     let others = c.args.party.now.others in
     let t = λ (v : ℕ). λ (x : ℕ). eqb x v in
-    let own = own_next p c.args.party.now.place c.args.party.now.epoch others c.args.inbox.now c.args.rows.now.stable c.args.arcs.now.stable in
+    let own = signals_to c.args.targets.now c.args.party.now.place ++ flat_map signals_of (bodies c.args.inbox.now c.args.party.now.epoch stage.Signal c.args.party.now.others) in
     record {
       places = λ more. absurd (omega arith);
       members = λ v. below-none c.args.inbox.now c.args.party.now.epoch stage.Call calls_of (t v) others (has own v) (has c.in_ok-next.next v) (c.in_ok-next.ensures.members v);
@@ -27,13 +27,12 @@ take_signals-requires-clause-body_rises g c =
 
 pub loop-p-preserved : goal.loop-p-preserved
 loop-p-preserved g c =
-    let p = g.P.VertexProgram.program_of c.args.program.now in
     let inbox = c.args.inbox.now in
     let e = c.args.party.now.epoch in
     let others = c.args.party.now.others in
     let q = c.loop-p.p in
     let t = λ (v : ℕ). λ (x : ℕ). eqb x v in
-    let first = λ (v : ℕ). has (own_next p c.args.party.now.place e others inbox c.args.rows.now.stable c.args.arcs.now.stable) v in
+    let first = λ (v : ℕ). has (signals_to c.args.targets.now c.args.party.now.place ++ flat_map signals_of (bodies c.args.inbox.now c.args.party.now.epoch stage.Signal c.args.party.now.others)) v in
     elim c.if-has.branch [
       | then-has+in_ok-take_signals w ↦ record {
         places = λ more. c.has.ensures.places;
@@ -51,14 +50,13 @@ loop-p-preserved g c =
 
 pub returns-clause-members : goal.returns-clause-members
 returns-clause-members g c = λ v.
-    let p = g.P.VertexProgram.program_of c.args.program.now in
     let inbox = c.args.inbox.now in
     let e = c.args.party.now.epoch in
     let others = c.args.party.now.others in
     let t = λ (x : ℕ). eqb x v in
     let end : c.loop-p.p ≡ 64 = omega arith in
-    below-all inbox e stage.Call calls_of t others (own_next p c.args.party.now.place e others inbox c.args.rows.now.stable c.args.arcs.now.stable) (has c.loop-p.next v) (c.loop-p.invariant.places (omega arith))
-    (c.loop-p.invariant.members v ∙ ap (λ n. has (own_next p c.args.party.now.place e others inbox c.args.rows.now.stable c.args.arcs.now.stable) v || passes_below inbox e stage.Call calls_of t others n) end)
+    below-all inbox e stage.Call calls_of t others (signals_to c.args.targets.now c.args.party.now.place ++ flat_map signals_of (bodies c.args.inbox.now c.args.party.now.epoch stage.Signal c.args.party.now.others)) (has c.loop-p.next v) (c.loop-p.invariant.places (omega arith))
+    (c.loop-p.invariant.members v ∙ ap (λ n. has (signals_to c.args.targets.now c.args.party.now.place ++ flat_map signals_of (bodies c.args.inbox.now c.args.party.now.epoch stage.Signal c.args.party.now.others)) v || passes_below inbox e stage.Call calls_of t others n) end)
 
 pub returns-clause-rise : goal.returns-clause-rise
 returns-clause-rise g c = c.loop-p.invariant.rise

@@ -2,8 +2,7 @@ use Rattle.std.proofs.Common.{◌≡◌, ◌∙◌, ◌||◌, ℕ, eqb, sym, ap,
 use Rattle.gr_base.specs.Rising.{RisesBy, has}
 use Rattle.gr_batch.specs.declared.stage.Stage.TheVariants as stage
 use Rattle.gr_batch.specs.Bodies.{signals_of}
-use Rattle.gr_rules.specs.Round.{signal_body}
-use Rattle.gr_rules.specs.AtPlace.{known_values}
+use Rattle.gr_signal.specs.Signals.{signals_to}
 use Rattle.gr_round.proofs.Known.{below-none, below-passed, below-skipped, below-all, passes_below}
 use Rattle.gr_round.proofs.Senders.{fits-one, items-fit}
 use Rattle.gr_round.proofs.next.own_next.Goals as goal
@@ -11,14 +10,11 @@ use Rattle.gr_round.proofs.next.own_next.Goals.{then-has+in_ok-take_signals, els
 
 pub loop-p-init : goal.loop-p-init
 loop-p-init g c =
-    let p = g.P.VertexProgram.program_of c.args.program.now in
     let others = c.args.party.now.others in
     let t = λ (v : ℕ). λ (x : ℕ). eqb x v in
-    let known = known_values p c.args.party.now.place c.args.party.now.epoch others c.args.inbox.now c.args.rows.now.stable c.args.arcs.now.stable in
-    let is = c.in_ok-next.ensures.signal known (λ v. ap (λ l. has l v) c.as_slice.ensures ∙ c.in_ok-woken.ensures.members v) in
     record {
       places = λ more. absurd (omega arith);
-      members = λ v. below-none c.args.inbox.now c.args.party.now.epoch stage.Signal signals_of (t v) others (has (signal_body known c.args.rows.now.stable c.args.arcs.now.stable c.args.party.now.place) v) (has c.in_ok-next.next v) (ap (λ l. has l v) is);
+      members = λ v. below-none c.args.inbox.now c.args.party.now.epoch stage.Signal signals_of (t v) others (has (signals_to c.args.targets.now c.args.party.now.place) v) (has c.in_ok-next.next v) (ap (λ l. has l v) c.in_ok-next.ensures.body);
       rise = c.in_ok-next.ensures.rise;
     }
 
@@ -29,13 +25,12 @@ take_signals-requires-clause-body_rises g c =
 
 pub loop-p-preserved : goal.loop-p-preserved
 loop-p-preserved g c =
-    let p = g.P.VertexProgram.program_of c.args.program.now in
     let inbox = c.args.inbox.now in
     let e = c.args.party.now.epoch in
     let others = c.args.party.now.others in
     let q = c.loop-p.p in
     let t = λ (v : ℕ). λ (x : ℕ). eqb x v in
-    let first = λ (v : ℕ). has (signal_body (known_values p c.args.party.now.place e others inbox c.args.rows.now.stable c.args.arcs.now.stable) c.args.rows.now.stable c.args.arcs.now.stable c.args.party.now.place) v in
+    let first = λ (v : ℕ). has (signals_to c.args.targets.now c.args.party.now.place) v in
     elim c.if-has.branch [
       | then-has+in_ok-take_signals w ↦ record {
         places = λ more. c.has.ensures.places;
@@ -53,14 +48,13 @@ loop-p-preserved g c =
 
 pub returns-clause-members : goal.returns-clause-members
 returns-clause-members g c = λ v.
-    let p = g.P.VertexProgram.program_of c.args.program.now in
     let inbox = c.args.inbox.now in
     let e = c.args.party.now.epoch in
     let others = c.args.party.now.others in
     let t = λ (x : ℕ). eqb x v in
     let end : c.loop-p.p ≡ 64 = omega arith in
-    below-all inbox e stage.Signal signals_of t others (signal_body (known_values p c.args.party.now.place e others inbox c.args.rows.now.stable c.args.arcs.now.stable) c.args.rows.now.stable c.args.arcs.now.stable c.args.party.now.place) (has c.loop-p.next v) (c.loop-p.invariant.places (omega arith))
-    (c.loop-p.invariant.members v ∙ ap (λ n. has (signal_body (known_values p c.args.party.now.place e others inbox c.args.rows.now.stable c.args.arcs.now.stable) c.args.rows.now.stable c.args.arcs.now.stable c.args.party.now.place) v || passes_below inbox e stage.Signal signals_of t others n) end)
+    below-all inbox e stage.Signal signals_of t others (signals_to c.args.targets.now c.args.party.now.place) (has c.loop-p.next v) (c.loop-p.invariant.places (omega arith))
+    (c.loop-p.invariant.members v ∙ ap (λ n. has (signals_to c.args.targets.now c.args.party.now.place) v || passes_below inbox e stage.Signal signals_of t others n) end)
 
 pub returns-clause-rise : goal.returns-clause-rise
 returns-clause-rise g c = c.loop-p.invariant.rise

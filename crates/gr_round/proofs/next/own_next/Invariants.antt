@@ -3,16 +3,13 @@ use Rattle.gr_base.specs.Places.{IsPlaces}
 use Rattle.gr_base.specs.Rising.{RisesBy, has}
 use Rattle.gr_batch.specs.declared.stage.Stage.TheVariants as stage
 use Rattle.gr_batch.specs.Bodies.{signals_of}
-use Rattle.gr_rules.specs.Round.{signal_body}
-use Rattle.gr_rules.specs.AtPlace.{known_values}
+use Rattle.gr_signal.specs.Signals.{signals_to}
 use Rattle.gr_round.proofs.Known.{passes_below}
 use Rattle.gr_round.proofs.next.own_next.Given as goal
 
 abbrev pub invariant-loop-p : goal.invariant-loop-p
-invariant-loop-p g l =
-    let p = g.P.VertexProgram.program_of l.program in
-    record {
-      places : 0 < l.p → IsPlaces l.party.others;
-      members : (v : ℕ) → has l.next v ≡ (has (signal_body (known_values p l.party.place l.party.epoch l.party.others l.inbox l.rows.stable l.arcs.stable) l.rows.stable l.arcs.stable l.party.place) v || passes_below l.inbox l.party.epoch stage.Signal signals_of (λ x. eqb x v) l.party.others l.p);
-      rise : RisesBy (λ (n : ℕ). n) l.next;
-    }
+invariant-loop-p g l = record {
+  places : 0 < l.p → IsPlaces l.party.others;
+  members : (v : ℕ) → has l.next v ≡ (has (signals_to l.targets l.party.place) v || passes_below l.inbox l.party.epoch stage.Signal signals_of (λ x. eqb x v) l.party.others l.p);
+  rise : RisesBy (λ (n : ℕ). n) l.next;
+}

@@ -1,4 +1,4 @@
-use Rattle.std.proofs.Common.{◌∙◌, refl, sym, ap, subst}
+use Rattle.std.proofs.Common.{List, ℕ, ◌∙◌, ◌++◌, flat_map, refl, sym, ap, subst}
 use Rattle.std.specs.Prelude.{IsSome}
 use Rattle.std.specs.List.{All}
 use Rattle.gr_base.specs.Rising.{has}
@@ -6,7 +6,11 @@ use Rattle.gr_batch.specs.declared.stage.Stage.TheVariants as stage
 use Rattle.gr_rules.specs.Rows.{row}
 use Rattle.gr_rules.specs.Inbox.{bodies}
 use Rattle.gr_rules.specs.Round.{new_value}
-use Rattle.gr_rules.specs.AtPlace.{all_next, round_rows}
+use Rattle.gr_rules.specs.AtPlace.{known_values, all_next, round_rows}
+use Rattle.gr_batch.specs.Stages.{is_end}
+use Rattle.gr_batch.specs.Bodies.{signals_of, calls_of}
+use Rattle.gr_signal.specs.Signals.{signals_to}
+use Rattle.gr_signal.proofs.Signalled.{signals-signalled}
 use Rattle.gr_round.proofs.Rounds.{due-same}
 use Rattle.gr_round.proofs.Selecting.{is_own, own-are}
 use Rattle.gr_round.proofs.Staged.{chosen-known}
@@ -27,7 +31,11 @@ returns-in_ok-next-in-End-clause-ok g c =
     let rows = c.args.rows.now in
     let arcs = c.args.arcs.now.stable in
     let party = c.args.party.now in
+    let inbox = c.args.inbox.now in
+    let known = known_values p party.place party.epoch party.others inbox rows.stable arcs in
+    let own = ap (λ ts. signals_to ts party.place) (c.requires.targets (ap is_end c.in-End.is)) ∙ signals-signalled known rows.stable arcs party.place in
+    let all : List ℕ → List ℕ = λ own. (own ++ flat_map signals_of (bodies inbox party.epoch stage.Signal party.others)) ++ flat_map calls_of (bodies inbox party.epoch stage.Call party.others) in
     c.take_calls.ensures
     ∙ ap (λ l. record rows { pending = l }) (
-    due-same c.as_slice-in-End.result.now (all_next p party.place party.epoch party.others c.args.inbox.now rows.stable arcs) (λ v. ap (λ l. has l v) c.as_slice-in-End.ensures ∙ c.in_ok-next-in-End.ensures.members v) rows.pending
+    due-same c.as_slice-in-End.result.now (all_next p party.place party.epoch party.others c.args.inbox.now rows.stable arcs) (λ v. ap (λ l. has l v) c.as_slice-in-End.ensures ∙ c.in_ok-next-in-End.ensures.members v ∙ ap (λ l. has (all l) v) own) rows.pending
     ∙ ap (λ s. round_rows p party.place party.epoch party.others c.args.inbox.now rows.stable arcs s rows.pending) (sym c.in-End.is))

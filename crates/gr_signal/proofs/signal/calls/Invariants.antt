@@ -1,13 +1,11 @@
-use Rattle.std.proofs.Common.{◌≡◌, ◌≤◌, ◌-◌, length, take}
-use Rattle.gr_rules.specs.Round.{vertices_where}
-use Rattle.gr_signal.proofs.Targets.{is_called}
+use Rattle.std.proofs.Common.{◌≡◌, ◌<◌, take}
+use Rattle.gr_base.specs.Rising.{RisesBy, has}
+use Rattle.gr_signal.proofs.Picked.{picked}
+use Rattle.gr_signal.proofs.Selected.{vertex}
 use Rattle.gr_signal.proofs.signal.calls.Given as goal
 
-abbrev pub invariant-loop-copy : goal.invariant-loop-copy
-invariant-loop-copy g l = record {
-  within : l.i ≤ length l.rows.stable;
-  body : l.body ≡ vertices_where (is_called l.next l.to) (take l.i l.rows.stable);
+abbrev pub invariant-loop-v : goal.invariant-loop-v
+invariant-loop-v g l = record {
+  body : l.body ≡ picked (λ c. has c.holders l.to) l.rows.stable (take l.v-index l.next);
+  rise : 0 < l.v-index → RisesBy vertex l.rows.stable;
 }
-
-abbrev pub decreases-loop-copy : goal.decreases-loop-copy
-decreases-loop-copy g l = length l.rows.stable - l.i

@@ -1,6 +1,8 @@
 use Rattle.std.proofs.Common.{◌∙◌, map, sym, ap, subst}
 use Rattle.gr_base.specs.Places.{without_place}
 use Rattle.gr_rows.specs.Layers.{CopyLayers, vertex_of}
+use Rattle.std.specs.Prelude.{IsTrue}
+use Rattle.gr_round.specs.Kept.{is_of_targets, takes_targets, targets_at}
 use Rattle.gr_round.specs.Needs.{GathersFit, UpdatesFit}
 use Rattle.gr_round.proofs.Rounds.{vertices-round}
 use Rattle.gr_round.proofs.Steps.{computes-new, reports-end}
@@ -24,8 +26,12 @@ pub body_to-requires-clause-gathers : goal.body_to-requires-clause-gathers
 body_to-requires-clause-gathers g c =
     subst (λ ps. GathersFit c.args.inbox.now c.args.view.now.epoch ps (g.P.VertexProgram.program_of c.args.program.now)) (sym c.others_of.ensures) c.requires.gathers
 
-pub body_to-requires-clause-updates : goal.body_to-requires-clause-updates
-body_to-requires-clause-updates g c = subst (λ ps. UpdatesFit c.args.inbox.now c.args.view.now.epoch ps c.args.rows.now.stable) (sym c.others_of.ensures) c.requires.updates
+pub body_to-requires-clause-targets : goal.body_to-requires-clause-targets
+body_to-requires-clause-targets g c = λ on.
+    let s = c.args.self.now.exchange.stage in
+    let takes = subst (λ n. IsTrue (takes_targets s n)) c.in-Send.ensures.next (subst (λ x. IsTrue (is_of_targets x)) c.stage.ensures on) in
+    c.requires.targets takes
+    ∙ (λ i. targets_at (g.P.VertexProgram.program_of c.args.program.now) c.args.me c.args.view.now.epoch (sym c.others_of.ensures i) c.args.inbox.now c.args.rows.now.stable c.args.arcs.now.stable)
 
 pub note_reported-requires-clause-computed : goal.note_reported-requires-clause-computed
 note_reported-requires-clause-computed g c =
