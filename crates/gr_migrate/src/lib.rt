@@ -13,6 +13,3 @@ pub use ask::asks;
 pub use gone::lost;
 pub use grant::{AskFrom, grants};
 pub use taking::taken_edges;
-
-#[cfg(test)]
-mod tests;

@@ -1,14 +1,15 @@
 ghost use Rattle.std.specs.Prelude.{◌≡◌, OnOk, OnErr};
-ghost use Rattle.gr_base.specs.Rising.{RisesBy};
 ghost use Rattle.gr_rows.specs.Layers.{vertex_of};
 ghost use Rattle.gr_log.specs.Directory.{with_items};
 
 use gr_base::OutOfMemory;
+use gr_numbered::last_of_each;
 use gr_program::{Datum, VertexCopy};
 use gr_rows::Rows;
 use std::alloc::Global;
 
-/// Stages the copies of a Grant body, whose vertices rise. It takes time linear in the copies of the place and these.
+/// Stages the copies of a Grant body, in whatever order they stand; of several copies of a vertex the last one. It takes
+/// time linear in the copies of the place, and linear-logarithmic in these.
 ///
 /// # Errors
 ///
@@ -18,10 +19,12 @@ pub fn grant_into<V: Datum>(
     rows: &mut Rows<V>,
     body: &[VertexCopy<V>],
 ) -> Result<(), OutOfMemory>
-    requires rise { RisesBy vertex_of body.now }
     ensures ok { OnOk result (rows.new.pending ≡ with_items vertex_of body.now rows.old.pending) }
     ensures err { OnErr result (rows.new ≡ rows.old) }
     ensures stable { rows.new.stable ≡ rows.old.stable }
 {
-    rows.stage_copies(alloc, body)
+    // A look at the count tells that the pending copies rise.
+    let _count = rows.pending_count();
+    let last = last_of_each(alloc, body)?;
+    rows.stage_copies(alloc, last.as_slice())
 }

@@ -10,6 +10,3 @@ pub use entry::LogEntry;
 pub use granted::grant_into;
 pub use records::{directory, edges, kept_edges};
 pub use spare::{Rebuilt, blank};
-
-#[cfg(test)]
-mod tests;

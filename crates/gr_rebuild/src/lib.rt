@@ -13,6 +13,3 @@ pub use granting::{granted, granted_to};
 pub use place::PlaceInRebuild;
 pub use recording::record;
 pub use staging::stage;
-
-#[cfg(test)]
-mod tests;

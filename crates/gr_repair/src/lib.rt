@@ -6,6 +6,3 @@ mod missing;
 
 pub use grant::grants_for_short;
 pub use missing::short;
-
-#[cfg(test)]
-mod tests;
