@@ -27,9 +27,9 @@ use Rattle.gr_cluster.specs.Tables.{Host, Cluster, host}
 use Rattle.gr_cluster.specs.Todo.{others, todo}
 use Rattle.gr_cluster.specs.Place.{staged_rows, staged_arcs, batch_to, body_to}
 use Rattle.gr_cluster.specs.Work.{computed_host, sent_host, worked}
-use Rattle.gr_law_network.proofs.Frame.{with_host-same}
-use Rattle.gr_law_relies.specs.Law.{MayReport}
-use Rattle.gr_law_round.proofs.Todo.{case-todo}
+use Rattle.gr_law_rounds.proofs.Network.Frame.{with_host-same}
+use Rattle.gr_law_work.specs.InRebuild.{MayReport}
+use Rattle.gr_law_rounds.proofs.Round.Todo.{case-todo}
 use Rattle.gr_core.specs.Steps.{line_of, copies_of, next_of, answer_of, acted_host, takes_memory}
 use Rattle.gr_core.specs.Works.{MayWork, MaySend, NeedsHold}
 
@@ -291,7 +291,7 @@ pub needs-here : {V A : Type 0} (P : Program V A) (co : Coordinator) (p : ℕ) (
     → NeedsHold P p (record { epoch = co.epoch; round = co.round; parties = ps; serial = serial; theta = theta }) h
 needs-here P co p h serial theta ps is M = let N = M.needs in
     subst (λ qs. NeedsHold P p (record { epoch = co.epoch; round = co.round; parties = qs; serial = serial; theta = theta }) h) (sym is)
-    (record { sources = N.sources; values = N.values; gathers = N.gathers; updates = N.updates; signals = N.signals; calls = N.calls; pending = N.pending })
+    (record { sources = N.sources; values = N.values; gathers = N.gathers; updates = N.updates; signals = N.signals; calls = N.calls; pending = N.pending; staged = N.staged })
 
 module _ {V A : Type 0} (P : Program V A) (k : Cluster V A) (p : ℕ) (h : Host V A) (M : MayWork P k.coordinator p h) (at : host k p ≡ Some h) (ps : List ℕ) (parties_is : ps ≡ parties k.coordinator) where
   abbrev seen : List ℕ → RoundView

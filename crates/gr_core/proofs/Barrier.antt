@@ -16,7 +16,7 @@ use Rattle.gr_cluster.specs.Step.{step, down_among, after_verdict, barred}
 use Rattle.gr_cluster.specs.Runs.{is_commit}
 use Rattle.gr_agree.specs.Truth.{Truth}
 use Rattle.gr_agree.specs.Agree.{Agree}
-use Rattle.gr_law_restore.proofs.Commit.{logs-whole}
+use Rattle.gr_law_rebuilds.proofs.Restore.Commit.{logs-whole}
 use Rattle.gr_lists.proofs.Tests.{by_test, by_option}
 use Rattle.gr_core.specs.Decided.{told_of, hosts_after, logs_after}
 use Rattle.gr_core.proofs.Network.{step-taken}

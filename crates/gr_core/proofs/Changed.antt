@@ -5,7 +5,7 @@ use Rattle.std.proofs.lemmas.List.{ext_get_or}
 use Rattle.gr_base.specs.Rising.{has}
 use Rattle.gr_lists.proofs.Tests.{by_test, by_same}
 use Rattle.gr_cluster.specs.Tables.{changed_at}
-use Rattle.gr_law_epoch.proofs.Tables.{length-changed_at, within-changed_at, get_or-unchanged}
+use Rattle.gr_law_rebuilds.proofs.Epoch.Tables.{length-changed_at, within-changed_at, get_or-unchanged}
 
 module _ {X : Type 0} (ps : List ℕ) (f : ℕ → X → X) (xs : List X) (d : X) where
   -- the entries before n are changed, and those from it on are as they were

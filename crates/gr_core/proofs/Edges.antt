@@ -13,7 +13,7 @@ use Rattle.gr_copies.proofs.FirstHolders.{row-bound}
 use Rattle.gr_copies.proofs.Selecting.{filter-on, filter-off}
 use Rattle.gr_lists.proofs.Maps.{rises-map}
 use Rattle.gr_base.proofs.Ranges.{range-rises}
-use Rattle.gr_law_load.proofs.Ranges.{numbered-numbers}
+use Rattle.gr_law_rounds.proofs.Load.Ranges.{numbered-numbers}
 
 -- the edge of a number, with it
 abbrev pub numbered_at : List Edge → ℕ → NumberedEdge

@@ -8,8 +8,8 @@ use Rattle.gr_view.specs.Modes.{is_over}
 use Rattle.gr_cluster.specs.Tables.{Cluster}
 use Rattle.gr_cluster.specs.Step.{step}
 use Rattle.gr_agree.specs.Laws.{NamesPlaces}
-use Rattle.gr_law_runs.proofs.Plain.{round-below}
-use Rattle.gr_law_ends.proofs.Events.{invariant-after}
+use Rattle.gr_law_runs.proofs.Runs.Plain.{round-below}
+use Rattle.gr_law_runs.proofs.Ends.Events.{invariant-after}
 use Rattle.gr_core.specs.Tables.{Agrees}
 
 module _ {V A : Type 0} (P : Program V A) (L : ProgramLaws P) (c : Cluster V A) (K : Agrees P c) where

@@ -25,8 +25,8 @@ use Rattle.gr_cluster.specs.Load.{Setting, first_copy, first_rows, first_arcs, f
 use Rattle.gr_agree.specs.FirstTruth.{IsGraph, IsSetting}
 use Rattle.gr_lists.proofs.Maps.{Each-map, map-rises}
 use Rattle.gr_law_runs.specs.Undisturbed.{RunsUndisturbed}
-use Rattle.gr_law_runs.proofs.Plain.{undisturbed-in}
-use Rattle.gr_law_runs.proofs.Results.{load-undisturbed}
+use Rattle.gr_law_runs.proofs.Runs.Plain.{undisturbed-in}
+use Rattle.gr_law_runs.proofs.Runs.Results.{load-undisturbed}
 use Rattle.gr_core.specs.Loaded.{setting_of}
 
 pub records-are : {V : Type 0} (rows : List (VertexCopy V)) (arcs : List NumberedEdge) → map record_of rows ++ map item.Kept arcs ≡ records_after rows arcs

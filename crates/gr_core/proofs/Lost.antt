@@ -17,7 +17,7 @@ use Rattle.gr_agree.specs.Agree.{Agree}
 use Rattle.gr_lists.proofs.Each.{Each-append, Each-filter, Each-has}
 use Rattle.gr_lists.proofs.Maps.{Each-map}
 use Rattle.gr_lists.proofs.Tests.{by_test}
-use Rattle.gr_law_epoch.proofs.Places.{dead-within, dead-not_retired}
+use Rattle.gr_law_rebuilds.proofs.Epoch.Places.{dead-within, dead-not_retired}
 
 -- a number is put among rising ones as an item is
 with_place-item : (ns : List ℕ) (n : ℕ) → with_place ns n ≡ with_item (λ x. x) n ns

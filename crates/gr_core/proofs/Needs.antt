@@ -23,13 +23,13 @@ use Rattle.gr_agree.specs.Truth.{Truth}
 use Rattle.gr_agree.specs.TrueRound.{active_next}
 use Rattle.gr_agree.specs.Hosts.{progress}
 use Rattle.gr_agree.specs.Agree.{Agree}
-use Rattle.gr_law_network.proofs.Frame.{within}
-use Rattle.gr_law_round.proofs.AtPlace.{IsRoundStage}
-use Rattle.gr_law_round.proofs.Install.{party, opened}
-use Rattle.gr_law_round.proofs.Compute.{round-stage}
-use Rattle.gr_law_round.proofs.Todo.{case-todo}
-use Rattle.gr_law_round.proofs.Work.{work-kept}
-use Rattle.gr_law_needs.proofs.Act.{may-act}
+use Rattle.gr_law_rounds.proofs.Network.Frame.{within}
+use Rattle.gr_law_rounds.proofs.Round.AtPlace.{IsRoundStage}
+use Rattle.gr_law_rounds.proofs.Round.Install.{party, opened}
+use Rattle.gr_law_rounds.proofs.Round.Compute.{round-stage}
+use Rattle.gr_law_rounds.proofs.Round.Todo.{case-todo}
+use Rattle.gr_law_rounds.proofs.Round.Work.{work-kept}
+use Rattle.gr_law_work.proofs.Needs.Act.{may-act}
 use Rattle.gr_core.specs.declared.turn.Turn.TheVariants as turn
 use Rattle.gr_core.specs.Turns.{turn_of}
 use Rattle.gr_core.specs.Works.{MayWork}

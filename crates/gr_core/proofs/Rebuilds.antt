@@ -26,13 +26,13 @@ use Rattle.gr_cluster.specs.Tables.{Host, Cluster, host}
 use Rattle.gr_cluster.specs.Todo.{others}
 use Rattle.gr_cluster.specs.Work.{exchange_of, computed_host, sent_host, worked}
 use Rattle.gr_cluster.specs.Step.{step}
-use Rattle.gr_law_rebuild.proofs.InEpoch.{at-epoch, is-now}
-use Rattle.gr_law_relies.specs.AtPlace.{place_in, rows_after, arcs_after, body_after, appended_by, ReadyToRebuild}
-use Rattle.gr_law_relies.specs.Law.{MayRebuild, MayReport}
-use Rattle.gr_law_relies.proofs.AtPlace.{ready, computed-work, sent-work, appended-work, reported-work}
-use Rattle.gr_law_relies.proofs.Line.{not-over}
-use Rattle.gr_law_relies.proofs.Next.{computes-fresh, sends-to, reports-end}
-use Rattle.gr_law_relies.proofs.Rebuild.{may-rebuild}
+use Rattle.gr_law_rebuilds.proofs.Rebuild.InEpoch.{at-epoch, is-now}
+use Rattle.gr_law_work.specs.AtPlace.{place_in, rows_after, arcs_after, body_after, appended_by, ReadyToRebuild}
+use Rattle.gr_law_work.specs.InRebuild.{MayRebuild, MayReport}
+use Rattle.gr_law_work.proofs.Relies.AtPlace.{ready, computed-work, sent-work, appended-work, reported-work}
+use Rattle.gr_law_work.proofs.Relies.Line.{not-over}
+use Rattle.gr_law_work.proofs.Relies.Next.{computes-fresh, sends-to, reports-end}
+use Rattle.gr_law_work.proofs.Relies.Rebuild.{may-rebuild}
 use Rattle.gr_core.specs.declared.turn.Turn.TheVariants as turn
 use Rattle.gr_core.specs.Rebuilds.{HasToDo}
 use Rattle.gr_core.specs.Steps.{takes_memory}

@@ -1,4 +1,5 @@
 pub mod Decided
+pub mod Targets
 pub mod Loaded
 pub mod Rebuilds
 pub mod Steps

@@ -10,6 +10,9 @@ use Rattle.gr_cluster.specs.Tables.{Host, Cluster, effective}
 use Rattle.gr_cluster.specs.Ending.{effective_at}
 use Rattle.gr_agree.specs.Truth.{Truth}
 use Rattle.gr_agree.specs.Agree.{Agree}
+use Rattle.gr_view.specs.Decisions.{parties}
+use Rattle.gr_core.specs.declared.targets.KeptTargets.{KeptTargets}
+use Rattle.gr_core.specs.Targets.{TargetsFit}
 
 -- a host by its two layers of copies and edges, its inbox, its counts, how far it is, and whether it has appended to its log
 abbrev pub host_of : {V A : Type 0} → CopyLayers V → EdgeLayers → List (Batch V A) → ℕ → ℕ → RoundLine → Bool → Host V A
@@ -37,6 +40,11 @@ pub record Tables (P V A : Type 0) : Type 0 where
 pub record Agrees {V A : Type 0} (P : Program V A) (c : Cluster V A) : Type 0 where
   pub state : Truth V
   pub holds : Agree P state c
+
+-- and the targets that it keeps are those of their place
+pub record Keeps {V A : Type 0} (P : Program V A) (c : Cluster V A) (kept : Option KeptTargets) : Type 0 where
+  pub agrees : Agrees P c
+  pub targets : TargetsFit P c.coordinator.epoch (parties c.coordinator) c.hosts kept
 
 module _ {V A : Type 0} where
   -- the copy of a vertex among those that a host shows

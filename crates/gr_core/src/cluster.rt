@@ -24,6 +24,7 @@ mod work;
 
 use crate::host::Host;
 use crate::load::first_places;
+use crate::targets::KeptTargets;
 use gr_base::{OutOfMemory, PlaceSet};
 use gr_copies::first_holders;
 use gr_cut::cut;
@@ -51,16 +52,17 @@ pub struct Cluster<P: VertexProgram> {
     pub(crate) losses: u8,
     pub(crate) theta: u32,
     pub(crate) program: P,
+    pub(crate) kept: Option<KeptTargets>,
 }
 
 impl<P: VertexProgram> Model for Cluster<P> {
-    ghost use Rattle.gr_core.specs.Tables.{Tables, Agrees};
+    ghost use Rattle.gr_core.specs.Tables.{Tables, Keeps};
 
     ghost Value = { Tables P P.Value P.Acc };
 
     ghost view = { λ c. record { program = c.program; cluster = record { hosts = c.hosts.items; logs = c.logs.items; flight = c.flight; serial = c.serial; coordinator = c.coordinator; places = c.places; losses = c.losses; theta = c.theta } } };
 
-    ghost invariant = { λ c. Agrees (P.program_of c.program) (record { hosts = c.hosts.items; logs = c.logs.items; flight = c.flight; serial = c.serial; coordinator = c.coordinator; places = c.places; losses = c.losses; theta = c.theta }) };
+    ghost invariant = { λ c. Keeps (P.program_of c.program) (record { hosts = c.hosts.items; logs = c.logs.items; flight = c.flight; serial = c.serial; coordinator = c.coordinator; places = c.places; losses = c.losses; theta = c.theta }) c.kept };
 }
 
 impl<P: VertexProgram> Cluster<P> {
@@ -98,6 +100,7 @@ impl<P: VertexProgram> Cluster<P> {
             losses: job.losses,
             theta,
             program,
+            kept: None,
         })
     }
 

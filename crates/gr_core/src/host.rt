@@ -1,4 +1,4 @@
-ghost use Rattle.std.specs.Prelude.{◌≡◌, ◌==◌, ◌+◌, ◌-◌, ◌^◌, ◌<◌, false, Some, IfOk, IsOk, OnOk, OnErr, IsTrue, IsSome, IfSome, map, length};
+ghost use Rattle.std.specs.Prelude.{◌≡◌, ◌==◌, ◌+◌, ◌-◌, ◌^◌, ◌<◌, false, Some, IfOk, IsOk, OnOk, OnErr, IsTrue, IsSome, IfSome, map};
 ghost use Rattle.std.specs.List.{list_any};
 ghost use Rattle.gr_base.specs.Places.{without_place};
 ghost use Rattle.gr_rows.specs.Layers.{vertex_of};
@@ -10,12 +10,17 @@ ghost use Rattle.gr_view.specs.Modes.{is_rebuild};
 ghost use Rattle.gr_rules.specs.Exchange.{unsent};
 ghost use Rattle.gr_rules.specs.Todo.{is_act};
 ghost use Rattle.gr_low.specs.Sources.{SourcesReady};
-ghost use Rattle.gr_round.specs.Needs.{ValuesFit, GathersFit, UpdatesFit, SignalsRise, CallsRise};
+ghost use Rattle.gr_rules.specs.Inbox.{bodies};
+ghost use Rattle.gr_round.specs.Kept.{takes_targets};
+ghost use Rattle.gr_round.specs.Line.{has_new_values};
+ghost use Rattle.gr_core.specs.Targets.{targets_of};
+ghost use Rattle.gr_core.specs.Works.{NeedsHold};
+ghost use Rattle.gr_round.specs.Needs.{ValuesFit, GathersFit, UpdatesFit, SignalsRise, CallsRise, NewValuesAreStaged};
 ghost use Rattle.gr_round.specs.Todo.{is_told};
 ghost use Rattle.gr_cluster.specs.Load.{fresh_host};
 ghost use Rattle.gr_cluster.specs.Stages.{first_stage};
 ghost use Rattle.gr_cluster.specs.Network.{fate_at, received};
-ghost use Rattle.gr_cluster.specs.Work.{installed_host, adopted_host, sent_host};
+ghost use Rattle.gr_cluster.specs.Work.{exchange_of, installed_host, adopted_host, sent_host};
 ghost use Rattle.gr_core.specs.Steps.{next_of, answer_of, acted_host};
 ghost use Rattle.gr_core.specs.Tables.{copy_in};
 ghost use Rattle.gr_core.specs.Turns.{turn_of};
@@ -31,6 +36,7 @@ use gr_flight::Inbox;
 use gr_program::{VertexCopy, VertexProgram};
 use gr_round::{Act, PlaceRound, RoundView};
 use gr_rows::Rows;
+use gr_signal::Targets;
 use gr_view::Coordinator;
 use std::alloc::Global;
 use std::marker::Model;
@@ -182,6 +188,7 @@ impl<P: VertexProgram> Host<P> {
         me: u8,
         view: &RoundView,
         program: &P,
+        targets: &Targets,
     ) -> Result<Act<P::Value, P::Acc>, OutOfMemory>
         requires sources { SourcesReady (P.program_of program.now) self.old.stable self.old.arcs }
         requires values { ValuesFit (P.program_of program.now) self.old.stable }
@@ -190,6 +197,8 @@ impl<P: VertexProgram> Host<P> {
         requires signals { SignalsRise self.old.inbox view.now.epoch (without_place view.now.parties me) }
         requires calls { CallsRise self.old.inbox view.now.epoch (without_place view.now.parties me) }
         requires pending { map vertex_of self.old.pending ≡ map vertex_of self.old.stable }
+        requires staged { IsTrue (has_new_values (exchange_of self.old)) → NewValuesAreStaged (P.program_of program.now) me self.old.stable self.old.arcs (bodies self.old.inbox view.now.epoch stage.Gather (without_place view.now.parties me)) self.old.pending }
+        requires targets { IsTrue (takes_targets self.old.stage (next_of me view.now self.old)) → targets.now ≡ targets_of (P.program_of program.now) view.now.epoch view.now.parties me self.old }
         ensures answer { IfOk result (λ act. act ≡ answer_of (P.program_of program.now) me view.now self.old (next_of me view.now self.old)) }
         ensures host { OnOk result (self.new ≡ acted_host (P.program_of program.now) me view.now self.old (next_of me view.now self.old)) }
         ensures told { IsTrue (is_told (next_of me view.now self.old)) → IsOk result }
@@ -201,6 +210,36 @@ impl<P: VertexProgram> Host<P> {
             view,
             program,
             &mut self.rows,
+            &self.arcs,
+            &self.inbox,
+            targets,
+        )
+    }
+
+    // Whether what comes next at the place `me` in a round takes the targets of what woke.
+    pub(crate) fn takes_targets(&self, me: u8, view: &RoundView) -> bool
+        ensures { result ≡ takes_targets self.now.stage (next_of me view.now self.now) }
+    {
+        self.round.takes_targets(me, view, &self.inbox)
+    }
+
+    // The targets of what woke at the place `me` in a round, by what it has computed and was sent.
+    pub(crate) fn targets(
+        &self,
+        alloc: Global,
+        me: u8,
+        view: &RoundView,
+        program: &P,
+    ) -> Result<Targets, OutOfMemory>
+        requires { NeedsHold (P.program_of program.now) me view.now self.now }
+        ensures { IfOk result (λ targets. targets ≡ targets_of (P.program_of program.now) view.now.epoch view.now.parties me self.now) }
+    {
+        self.round.targets(
+            alloc,
+            me,
+            view,
+            program,
+            &self.rows,
             &self.arcs,
             &self.inbox,
         )

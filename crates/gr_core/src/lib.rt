@@ -4,6 +4,7 @@
 mod cluster;
 mod host;
 mod load;
+mod targets;
 mod turn;
 
 pub use cluster::Cluster;

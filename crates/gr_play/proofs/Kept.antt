@@ -9,8 +9,8 @@ use Rattle.gr_cluster.specs.Canonical.{next_canonical}
 use Rattle.gr_cluster.specs.Step.{step}
 use Rattle.gr_cluster.specs.ToGo.{most_added, to_go}
 use Rattle.gr_agree.specs.Agree.{Invariant}
-use Rattle.gr_law_left.proofs.Same.{step-places}
-use Rattle.gr_law_bounds.proofs.ToGo.{to_go-added, to_go-falls}
+use Rattle.gr_law_runs.proofs.Left.Same.{step-places}
+use Rattle.gr_law_runs.proofs.Bounds.ToGo.{to_go-added, to_go-falls}
 use Rattle.gr_play.specs.Inside.Progress.{PlaysEvent, FailsBefore, FailsAfter}
 use Rattle.gr_play.specs.Inside.Room.{HasRoomFor}
 use Rattle.gr_play.proofs.Rooms.{HasRoomFor-canonical}

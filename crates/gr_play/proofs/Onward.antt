@@ -14,7 +14,7 @@ use Rattle.gr_cluster.specs.Tables.{Cluster}
 use Rattle.gr_cluster.specs.Canonical.{next_canonical}
 use Rattle.gr_cluster.specs.ToGo.{to_go}
 use Rattle.gr_agree.specs.Agree.{Invariant}
-use Rattle.gr_law_bounds.proofs.ToGo.{to_go-falls, canonical-is}
+use Rattle.gr_law_runs.proofs.Bounds.ToGo.{to_go-falls, canonical-is}
 use Rattle.gr_play.specs.Playing.{start, names_event, event_lines}
 use Rattle.gr_play.specs.Inside.Progress.{canonical_line, PlaysTo, PlaysPart, PlaysEvent, FailsBefore, FailsAfter}
 use Rattle.gr_play.specs.Inside.Room.{HasRoomFor}

@@ -7,8 +7,8 @@ use Rattle.gr_cluster.specs.Step.{step}
 use Rattle.gr_cluster.specs.Canonical.{next_canonical}
 use Rattle.gr_cluster.specs.ToGo.{most_left, to_go}
 use Rattle.gr_agree.specs.Agree.{Invariant}
-use Rattle.gr_law_left.proofs.Counts.{step-counts}
-use Rattle.gr_law_bounds.proofs.ToGo.{to_go-bounded, to_go-added, to_go-falls, canonical-is}
+use Rattle.gr_law_runs.proofs.Left.Counts.{step-counts}
+use Rattle.gr_law_runs.proofs.Bounds.ToGo.{to_go-bounded, to_go-added, to_go-falls, canonical-is}
 use Rattle.gr_play.specs.Inside.Room.{HasRoom, HasRoomFor}
 
 module _ {V A : Type 0} (c : Cluster V A) (taken : ℕ) where

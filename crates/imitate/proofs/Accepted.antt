@@ -19,7 +19,7 @@ use Rattle.gr_min.specs.Laws.HopsLaws.{hops_laws}
 use Rattle.gr_min.specs.Laws.LabelsLaws.{labels_laws}
 use Rattle.gr_agree.specs.FirstTruth.{IsGraph, IsSetting}
 use Rattle.gr_cluster.specs.Runs.{steps_of}
-use Rattle.gr_law_ends.proofs.Ends.{ends-as-it-must}
+use Rattle.gr_law_runs.proofs.Ends.Ends.{ends-as-it-must}
 use Rattle.imitate.specs.declared.refusal.Refusal.{Refusal}
 use Rattle.imitate.specs.Chosen.{chosen_of}
 use Rattle.imitate.specs.Reading.{Task, Plan, after_graph, after_job, task_of, after_schedule, after_task, plan_of}

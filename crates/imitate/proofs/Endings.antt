@@ -12,8 +12,8 @@ use Rattle.gr_cluster.specs.GraphIn.{Degrees, LoggedGraph, graph_of, graph_in, d
 use Rattle.gr_cluster.specs.Budget.{IsWithinBudget}
 use Rattle.gr_cluster.specs.Ending as cluster
 use Rattle.gr_report.specs.Endings.{lost_text}
-use Rattle.gr_law_bounds.proofs.Crashes.{few-borne}
-use Rattle.gr_law_ends.proofs.Runs.{run-stays}
+use Rattle.gr_law_runs.proofs.Bounds.Crashes.{few-borne}
+use Rattle.gr_law_runs.proofs.Ends.Runs.{run-stays}
 use Rattle.imitate.specs.declared.ended.Ended.{Ended}
 use Rattle.imitate.specs.declared.ended.Ended.TheVariants as ended
 use Rattle.imitate.specs.Words.{FileNames, Asked}

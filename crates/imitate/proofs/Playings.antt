@@ -1,43 +1,28 @@
 -- A run that was played: the cluster before it, the result of one that is done, and how one leaves its trace that is not played to
 -- its end.
-use Rattle.std.proofs.Common.{◌≡◌, ◌≤◌, ◌<◌, ◌^◌, ◌⊎◌, ◌∙◌, ℕ, List, length, Option, Some, None, Result, refl, sym, ap, subst, inl, inr, lit<, lit≤}
-use Rattle.std.specs.Prelude.{IsTrue, IfSome, IsSome, is_some}
-use Rattle.std.specs.List.{All, AllByRecursion as Each}
-use Rattle.std.proofs.lemmas.List.{length-map}
-use Rattle.std.proofs.lemmas.List.Elements.{recursion_from_All}
+use Rattle.std.proofs.Common.{◌≡◌, ◌≤◌, ◌<◌, ◌^◌, ◌⊎◌, ℕ, List, length, Option, Some, None, Result, refl, sym, subst, inl, inr, lit<, lit≤}
+use Rattle.std.specs.Prelude.{IfSome, IsSome, is_some}
 use Rattle.gr_base.specs.declared.records.Edge.{Edge}
-use Rattle.gr_base.specs.Rising.{has}
-use Rattle.gr_lists.proofs.Maps.{map-rises}
 use Rattle.gr_outside.specs.Causes.{Rose}
 use Rattle.gr_outside.specs.Files.{FilesSeen}
-use Rattle.gr_program.specs.Program.{Program, ProgramLaws}
-use Rattle.gr_program.specs.Result.{done_text, result_text}
-use Rattle.gr_edges.specs.declared.graph.Graph.{Graph}
-use Rattle.gr_edges.specs.Vertices.{id_of, ids}
-use Rattle.gr_job.specs.declared.job.Job.{Job}
+use Rattle.gr_program.specs.Program.{Program}
 use Rattle.gr_job.specs.declared.job.ProgramChoice.{ProgramChoice}
 use Rattle.gr_sched.specs.declared.event.Line.{Line}
-use Rattle.gr_view.specs.declared.coordinator.Mode.{Mode}
 use Rattle.gr_view.specs.declared.coordinator.Mode.TheVariants as mode
 use Rattle.gr_cluster.specs.Tables.{Cluster}
 use Rattle.gr_cluster.specs.Load.{Setting, load}
-use Rattle.gr_cluster.specs.Runs.{Position, position_after}
+use Rattle.gr_cluster.specs.Runs.{Position}
 use Rattle.gr_cluster.specs.Ending as cluster
-use Rattle.gr_agree.specs.FirstTruth.{IsGraph, IsSetting}
-use Rattle.gr_law_runs.specs.Undisturbed.{is_plain_line}
-use Rattle.gr_law_runs.proofs.Schedules.{schedule-result}
-use Rattle.gr_core.specs.Loaded.{setting_of}
 use Rattle.gr_core.specs.Tables.{Tables}
-use Rattle.gr_play.specs.Playing.{start, Plays}
+use Rattle.gr_play.specs.Playing.{start}
 use Rattle.gr_play.specs.Tracing.{Traces, TracesPart}
-use Rattle.imitate.specs.declared.ended.Ended.{Ended}
 use Rattle.imitate.specs.declared.ended.Ended.TheVariants as ended
 use Rattle.imitate.specs.declared.refusal.Refusal.{Refusal}
 use Rattle.imitate.specs.declared.refusal.Refusal.TheVariants as refusal
 use Rattle.imitate.specs.declared.told.Told.{Told}
 use Rattle.imitate.specs.Chosen.{Chosen, chosen_of}
-use Rattle.imitate.specs.Running.{ended_by, trace_after}
-use Rattle.imitate.specs.Playing.{IsPartTraced, IsUnplayed, PlaysRun, IsTold}
+use Rattle.imitate.specs.Running.{trace_after}
+use Rattle.imitate.specs.Playing.{IsPartTraced, IsUnplayed, PlaysRun}
 use Rattle.imitate.proofs.Quiet.{traces-part}
 
 -- a cluster as it is at load, as far as its counts go

@@ -12,7 +12,7 @@ use Rattle.gr_cluster.specs.Step.{step}
 use Rattle.gr_cluster.specs.Runs.{Position, Played, position_by, next_event, next_position, position_after, played_by, steps_of, IsWhole, IsRun}
 use Rattle.gr_cluster.specs.Ending as cluster
 use Rattle.gr_lists.proofs.Tests.{by_option}
-use Rattle.gr_law_runs.proofs.Finish.{after-finishes, whole-over}
+use Rattle.gr_law_runs.proofs.Runs.Finish.{after-finishes, whole-over}
 use Rattle.imitate.specs.declared.ended.Ended.TheVariants as ended
 use Rattle.imitate.specs.Reading.{Plan}
 use Rattle.imitate.specs.Running.{ended_by, stands_after, program_in, begin, IsWholeAfter, run_end}

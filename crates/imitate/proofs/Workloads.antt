@@ -36,10 +36,10 @@ use Rattle.gr_cluster.specs.Ending.{results_of}
 use Rattle.gr_play.specs.Playing.{start, Plays}
 use Rattle.gr_agree.specs.FirstTruth.{IsGraph, IsSetting}
 use Rattle.gr_lists.proofs.Each.{Each-has}
-use Rattle.gr_law_runs.specs.Law.{HasResult}
-use Rattle.gr_law_ends.proofs.Results.{done-result}
-use Rattle.gr_law_ends.proofs.Runs.{run-stays}
-use Rattle.gr_law_bounds.proofs.Crashes.{few-borne}
+use Rattle.gr_law_runs.specs.Runs.{HasResult}
+use Rattle.gr_law_runs.proofs.Ends.Results.{done-result}
+use Rattle.gr_law_runs.proofs.Ends.Runs.{run-stays}
+use Rattle.gr_law_runs.proofs.Bounds.Crashes.{few-borne}
 use Rattle.imitate.specs.declared.ended.Ended.TheVariants as ended
 use Rattle.imitate.specs.Words.{max_size}
 use Rattle.imitate.specs.Running.{ended_by, setting_in, begin, cluster_after, IsWholeAfter}

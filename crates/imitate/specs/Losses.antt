@@ -7,7 +7,7 @@ use Rattle.gr_outside.specs.Sink.{SinkSeen, Gains}
 use Rattle.gr_cluster.specs.Tables.{Cluster}
 use Rattle.gr_cluster.specs.GraphIn.{directory_of}
 use Rattle.gr_cluster.specs.Budget.{IsWithinBudget}
-use Rattle.gr_law_bounds.specs.Crashes.{crash_lines}
+use Rattle.gr_law_runs.specs.Crashes.{crash_lines}
 use Rattle.gr_report.specs.Endings.{lost_text, unfinished_text}
 use Rattle.imitate.specs.Words.{FileNames, Asked}
 use Rattle.imitate.specs.Reading.{Plan}

@@ -34,6 +34,7 @@ impl<P: VertexProgram> Cluster<P> {
         let _limit = self.coordinator.limit;
         let before = self.coordinator;
         let down = self.down_among(looked_at(&before));
+        self.kept = None;
         let verdict = self.coordinator.barrier(down);
         carry_out(&mut self.hosts, &mut self.logs, &before, down, verdict)
     }

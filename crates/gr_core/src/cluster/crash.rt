@@ -21,6 +21,7 @@ impl<P: VertexProgram> Cluster<P> {
         ensures program { self.new.program ≡ self.old.program }
     {
         let _count = self.places();
+        self.kept = None;
         if lose(&mut self.hosts, p) {
             Outcome::Crashed(tear(&mut self.logs, p, keep))
         } else {

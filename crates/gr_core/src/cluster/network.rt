@@ -1,4 +1,4 @@
-ghost use Rattle.std.specs.Prelude.{◌≡◌, false, get_or, set, remove, slice_get, Some, None, IfOk, OnOk, OnErr};
+ghost use Rattle.std.specs.Prelude.{◌≡◌, ◌≢◌, ℕ, false, get_or, set, remove, slice_get, Some, None, IfOk, OnOk, OnErr};
 ghost use Rattle.std.specs.List.{list_any};
 ghost use Rattle.gr_batch.specs.declared.batch.Batch.{Batch};
 ghost use Rattle.gr_batch.specs.declared.outcome.Outcome.TheVariants as outcome;
@@ -9,10 +9,12 @@ ghost use Rattle.gr_cluster.specs.Tables as cluster;
 ghost use Rattle.gr_cluster.specs.Tables.{inbox_of};
 ghost use Rattle.gr_cluster.specs.Network.{fate_at, received, delivered};
 ghost use Rattle.gr_cluster.specs.Step.{step};
+ghost use Rattle.gr_core.specs.Targets.{forgotten};
 ghost use Rattle.gr_core.specs.Steps.{may_drop};
 
 use crate::cluster::Cluster;
 use crate::host::Host;
+use crate::targets::{KeptTargets, is_kept_at};
 use gr_base::OutOfMemory;
 use gr_batch::{Batch, Fate, Outcome};
 use gr_flight::Flight;
@@ -27,6 +29,7 @@ impl<P: VertexProgram> Cluster<P> {
         ensures program { self.new.program ≡ self.old.program }
         ensures err { OnErr result (self.new ≡ self.old) }
     {
+        forget_receiver(&mut self.kept, &self.flight, i);
         deliver_from(self.alloc, &mut self.hosts, &mut self.flight, i)
     }
 
@@ -37,6 +40,7 @@ impl<P: VertexProgram> Cluster<P> {
         ensures program { self.new.program ≡ self.old.program }
     {
         if self.may_drop(i) {
+            self.kept = None;
             drop_from(&mut self.flight, i)
         } else {
             Outcome::Idle
@@ -60,6 +64,22 @@ impl<P: VertexProgram> Cluster<P> {
     }
 }
 
+// The targets of the receiver of batch `i` in flight are forgotten.
+fn forget_receiver<V: Datum, A: Datum>(
+    kept: &mut Option<KeptTargets>,
+    flight: &Flight<V, A>,
+    i: u32,
+)
+    ensures { kept.new ≡ forgotten (slice_get flight.now i) kept.old }
+{
+    let Some(batch) = flight.peek(i) else {
+        return;
+    };
+    if is_kept_at(kept, batch.receiver) {
+        *kept = None;
+    }
+}
+
 // Batch `i` in flight comes to its receiver.
 fn deliver_from<P: VertexProgram>(
     alloc: Global,
@@ -69,6 +89,7 @@ fn deliver_from<P: VertexProgram>(
 ) -> Result<Outcome<P::Value, P::Acc>, OutOfMemory>
     requires fresh { (b : Batch P.Value P.Acc) → slice_get flight.old i ≡ Some b → list_any (is_of b.sender b.epoch (stage_of_body b.body)) (inbox_of (get_or hosts.old.items b.receiver None)) ≡ false }
     ensures ok { IfOk result (λ outcome. (c : cluster.Cluster P.Value P.Acc) → c.hosts ≡ hosts.old.items → c.flight ≡ flight.old → (record c { hosts = hosts.new.items; flight = flight.new }, outcome) ≡ delivered c i (slice_get flight.old i)) }
+    ensures others { (q : ℕ) → ((b : Batch P.Value P.Acc) → slice_get flight.old i ≡ Some b → q ≢ b.receiver) → get_or hosts.new.items q None ≡ get_or hosts.old.items q None }
     ensures hosts_kept { OnErr result (hosts.new.items ≡ hosts.old.items) }
     ensures flight_kept { OnErr result (flight.new ≡ flight.old) }
 {

@@ -1,4 +1,4 @@
-ghost use Rattle.std.specs.Prelude.{◌≡◌, ℕ, List, ◌<◌, ◌≤◌, ◌+◌, ◌-◌, ◌^◌, true, false, length, get_or, set, None, Some, IfSome, IfOk, IsOk, IsTrue, OnOk, OnErr};
+ghost use Rattle.std.specs.Prelude.{◌≡◌, ◌<◌, ◌-◌, ◌^◌, true, false, length, get_or, set, None, Some, IfSome, IfOk, IsOk, IsTrue, OnOk, OnErr};
 ghost use Rattle.gr_base.specs.Places.{without_place};
 ghost use Rattle.gr_batch.specs.Stages.{is_end};
 ghost use Rattle.gr_sched.specs.declared.event.Event.TheVariants as event;
@@ -13,7 +13,7 @@ ghost use Rattle.gr_rebuild.specs.Ending.{IsAllCommitted};
 ghost use Rattle.gr_cluster.specs.Tables.{Host as Held, host};
 ghost use Rattle.gr_cluster.specs.Work.{exchange_of, computed_host};
 ghost use Rattle.gr_cluster.specs.Step.{step};
-ghost use Rattle.gr_law_relies.specs.AtPlace.{place_in, ReadyToRebuild, rows_after, arcs_after, body_after, appended_by};
+ghost use Rattle.gr_law_work.specs.AtPlace.{place_in, ReadyToRebuild, rows_after, arcs_after, body_after, appended_by};
 ghost use Rattle.gr_core.specs.declared.turn.Turn.TheVariants as turn;
 ghost use Rattle.gr_core.specs.Steps.{takes_memory};
 ghost use Rattle.gr_core.specs.Turns.{turn_of};
@@ -98,6 +98,7 @@ impl<P: VertexProgram> Cluster<P> {
         ensures err { OnErr result (self.new ≡ self.old) }
     {
         let place = self.place_in_rebuild(p);
+        self.kept = None;
         let logs = self.logs.as_slice();
         let stage = compute(self.alloc, &mut self.hosts, logs, &place)?;
         Ok(Outcome::Computed(stage))
@@ -126,6 +127,7 @@ impl<P: VertexProgram> Cluster<P> {
             body,
         };
         let parties = self.coordinator.parties();
+        self.kept = None;
         send(
             &mut self.hosts,
             &mut self.flight,
@@ -145,6 +147,7 @@ impl<P: VertexProgram> Cluster<P> {
         ensures err { OnErr result (self.new ≡ self.old) }
     {
         let place = self.place_in_rebuild(p);
+        self.kept = None;
         let bytes = append(self.alloc, &mut self.hosts, &mut self.logs, &place)?;
         Ok(Outcome::Appended(bytes))
     }
@@ -156,6 +159,7 @@ impl<P: VertexProgram> Cluster<P> {
         ensures step { (self.new.cluster, result) ≡ step (P.program_of self.old.program) self.old.cluster (event.Work p) }
         ensures program { self.new.program ≡ self.old.program }
     {
+        self.kept = None;
         let due = report(&mut self.hosts, p);
         self.coordinator.report(p, due);
         Outcome::Ready(due)

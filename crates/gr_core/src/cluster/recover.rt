@@ -40,6 +40,7 @@ impl<P: VertexProgram> Cluster<P> {
             self.coordinator.commits,
             opening,
         )?;
+        self.kept = None;
         self.coordinator = after;
         Ok(opened(lost, opening))
     }

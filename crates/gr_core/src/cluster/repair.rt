@@ -16,6 +16,7 @@ impl<P: VertexProgram> Cluster<P> {
         ensures step { (self.new.cluster, result) ≡ step (P.program_of self.old.program) self.old.cluster event.Repair }
         ensures program { self.new.program ≡ self.old.program }
     {
+        self.kept = None;
         repaired(self.coordinator.open_repair())
     }
 }

@@ -1,8 +1,6 @@
-ghost use Rattle.std.specs.Prelude.{◌≡◌, ℕ, List, IsSome, ◌<◌, ◌-◌, ◌+◌, ◌^◌, false, ◌∷◌, [], ◌++◌, length, get_or, set, option_map, None, Some, IfOk, IsOk, OnOk, OnErr, IfSome, IsTrue, not};
+ghost use Rattle.std.specs.Prelude.{◌≡◌, ℕ, List, IsSome, ◌<◌, ◌-◌, ◌+◌, ◌^◌, false, ◌∷◌, [], ◌++◌, length, get_or, set, option_map, None, Some, IfOk, IsOk, OnOk, OnErr, IfSome, IsSomeAnd, IsTrue, not};
 ghost use Rattle.gr_base.specs.Places.{without_place};
-ghost use Rattle.gr_base.specs.Rising.{has as is_in};
 ghost use Rattle.gr_batch.specs.Bodies.{stage_of_body};
-ghost use Rattle.gr_batch.specs.Stages.{is_end};
 ghost use Rattle.gr_batch.specs.declared.outcome.Outcome.TheVariants as outcome;
 ghost use Rattle.gr_sched.specs.declared.event.Event.TheVariants as event;
 ghost use Rattle.gr_view.specs.declared.coordinator.Mode.{Mode};
@@ -10,9 +8,6 @@ ghost use Rattle.gr_view.specs.Modes.{is_over, is_rebuild};
 ghost use Rattle.gr_log.specs.Log.{Log, cut_log};
 ghost use Rattle.gr_rules.specs.Taken.{log_at};
 ghost use Rattle.gr_rules.specs.Exchange.{unsent};
-ghost use Rattle.gr_rules.specs.Todo.{Todo};
-ghost use Rattle.gr_rules.specs.AtPlace.{due_count};
-ghost use Rattle.gr_round.specs.Line.{is_of_round};
 ghost use Rattle.gr_round.specs.Todo.{is_told};
 ghost use Rattle.gr_view.specs.Decisions.{parties};
 ghost use Rattle.gr_cluster.specs.Tables.{Host as Held, host};
@@ -20,12 +15,15 @@ ghost use Rattle.gr_cluster.specs.Todo.{todo};
 ghost use Rattle.gr_cluster.specs.Work.{installed_host, adopted_host, sent_host, worked};
 ghost use Rattle.gr_cluster.specs.Step.{step};
 ghost use Rattle.gr_core.specs.declared.turn.Turn.TheVariants as turn;
+ghost use Rattle.gr_round.specs.Kept.{takes_targets};
+ghost use Rattle.gr_core.specs.Targets.{TargetsFit, AreKept, StandAsBefore, targets_of};
 ghost use Rattle.gr_core.specs.Steps.{next_of, answer_of, acted_host, takes_memory};
 ghost use Rattle.gr_core.specs.Turns.{turn_of};
 ghost use Rattle.gr_core.specs.Works.{NeedsHold, MaySend, MayWork, cluster_of};
 
 use crate::cluster::Cluster;
 use crate::host::Host;
+use crate::targets::{KeptTargets, is_kept_at};
 use crate::turn::{Turn, is_rebuild};
 use gr_base::{OutOfMemory, PlaceSet};
 use gr_batch::{Batch, Outcome, stage_of};
@@ -33,6 +31,7 @@ use gr_flight::Flight;
 use gr_log::EdgeLog;
 use gr_program::VertexProgram;
 use gr_round::{Act, RoundView};
+use gr_signal::Targets;
 use gr_view::Coordinator;
 use std::alloc::Global;
 
@@ -85,6 +84,7 @@ impl<P: VertexProgram> Cluster<P> {
         ensures step { (self.new.cluster, result) ≡ step (P.program_of self.old.program) self.old.cluster (event.Work p) }
         ensures program { self.new.program ≡ self.old.program }
     {
+        self.kept = None;
         Outcome::Installed(install(&mut self.hosts, p))
     }
 
@@ -96,6 +96,7 @@ impl<P: VertexProgram> Cluster<P> {
         ensures step { (self.new.cluster, result) ≡ step (P.program_of self.old.program) self.old.cluster (event.Work p) }
         ensures program { self.new.program ≡ self.old.program }
     {
+        self.kept = None;
         let rebuild = is_rebuild(self.coordinator.mode);
         adopt(&mut self.hosts, p, self.coordinator.epoch, rebuild);
         cut_tail(&mut self.logs, p);
@@ -117,6 +118,7 @@ impl<P: VertexProgram> Cluster<P> {
         act_in_round(
             self.alloc,
             &mut self.hosts,
+            &mut self.kept,
             &mut self.flight,
             &mut self.serial,
             &mut self.coordinator,
@@ -173,6 +175,7 @@ fn cut_tail(logs: &mut Vec<EdgeLog>, p: u8)
 fn act_in_round<P: VertexProgram>(
     alloc: Global,
     hosts: &mut Vec<Option<Host<P>>>,
+    kept: &mut Option<KeptTargets>,
     flight: &mut Flight<P::Value, P::Acc>,
     serial: &mut u64,
     coordinator: &mut Coordinator,
@@ -186,6 +189,11 @@ fn act_in_round<P: VertexProgram>(
     requires up { IsSome (get_or hosts.old.items p None) }
     requires room { length flight.old < 2 ^ 32 - 1 }
     requires serial { serial.old < 2 ^ 64 - 1 }
+    requires targets { TargetsFit (P.program_of program.now) coordinator.old.epoch (parties coordinator.old) hosts.old.items kept.old }
+    ensures targets { TargetsFit (P.program_of program.now) coordinator.old.epoch (parties coordinator.old) hosts.old.items kept.new }
+    ensures stand { StandAsBefore hosts.old.items hosts.new.items }
+    ensures epoch { coordinator.new.epoch ≡ coordinator.old.epoch }
+    ensures parties { parties coordinator.new ≡ parties coordinator.old }
     ensures ok { (logs : List Log) (places losses : ℕ) (h : Held P.Value P.Acc) → get_or hosts.old.items p None ≡ Some h
         → IfOk result (λ outcome. (cluster_of hosts.new.items logs flight.new serial.new coordinator.new places losses theta, outcome)
         ≡ worked (P.program_of program.now) (cluster_of hosts.old.items logs flight.old serial.old coordinator.old places losses theta) p h (todo coordinator.old p h)) }
@@ -202,7 +210,8 @@ fn act_in_round<P: VertexProgram>(
         serial: *serial,
         theta,
     };
-    match act(alloc, hosts, p, &view, program)? {
+    keep_targets(alloc, hosts.as_slice(), kept, p, &view, program)?;
+    match act(alloc, hosts, kept, p, &view, program)? {
         Act::Computed(stage) => Ok(Outcome::Computed(stage)),
         Act::Sent(batch) => send(hosts, flight, serial, p, view.parties, batch),
         Act::Ready(due) => {
@@ -231,6 +240,7 @@ pub(crate) fn send<P: VertexProgram>(
     ensures hosts { OnOk result ((h : Held P.Value P.Acc) (q : ℕ) → get_or hosts.old.items p None ≡ Some h → unsent (without_place parties p) h.sent ≡ Some q → hosts.new.items ≡ set hosts.old.items p (Some (sent_host (without_place parties p) q h))) }
     ensures flight { OnOk result (flight.new ≡ flight.old ++ batch ∷ []) }
     ensures serial { OnOk result (serial.new ≡ serial.old + 1) }
+    ensures stand { StandAsBefore hosts.old.items hosts.new.items }
     ensures hosts_kept { OnErr result (hosts.new.items ≡ hosts.old.items) }
     ensures flight_kept { OnErr result (flight.new ≡ flight.old) }
     ensures serial_kept { OnErr result (serial.new ≡ serial.old) }
@@ -246,7 +256,8 @@ pub(crate) fn send<P: VertexProgram>(
 
 fn note_sent<P: VertexProgram>(slot: &mut Option<Host<P>>, p: u8, parties: PlaceSet)
     requires { IfSome slot.old (λ h. MaySend (without_place parties p) h) }
-    ensures { (h : Held P.Value P.Acc) (q : ℕ) → slot.old ≡ Some h → unsent (without_place parties p) h.sent ≡ Some q → slot.new ≡ Some (sent_host (without_place parties p) q h) }
+    ensures sent { (h : Held P.Value P.Acc) (q : ℕ) → slot.old ≡ Some h → unsent (without_place parties p) h.sent ≡ Some q → slot.new ≡ Some (sent_host (without_place parties p) q h) }
+    ensures none { slot.old ≡ None → slot.new ≡ None }
 {
     match slot {
         None => {}
@@ -254,23 +265,80 @@ fn note_sent<P: VertexProgram>(slot: &mut Option<Host<P>>, p: u8, parties: Place
     }
 }
 
+// The targets of what woke at a place are worked out and kept, if what comes next there takes them.
+fn keep_targets<P: VertexProgram>(
+    alloc: Global,
+    hosts: &[Option<Host<P>>],
+    kept: &mut Option<KeptTargets>,
+    p: u8,
+    view: &RoundView,
+    program: &P,
+) -> Result<(), OutOfMemory>
+    requires place { p < length hosts.now }
+    requires needs { IfSome (get_or hosts.now p None) (λ h. NeedsHold (P.program_of program.now) p view.now h) }
+    requires targets { TargetsFit (P.program_of program.now) view.now.epoch view.now.parties hosts.now kept.old }
+    ensures targets { TargetsFit (P.program_of program.now) view.now.epoch view.now.parties hosts.now kept.new }
+    ensures kept { OnOk result (AreKept (P.program_of program.now) view.now p hosts.now kept.new) }
+    ensures ok { (h : Held P.Value P.Acc) → get_or hosts.now p None ≡ Some h → takes_targets h.stage (next_of p view.now h) ≡ false → IsOk result }
+{
+    let Some(host) = &hosts[usize::from(p)] else {
+        return Ok(());
+    };
+    if is_kept_at(kept, p) {
+        return Ok(());
+    }
+    if host.takes_targets(p, view) {
+        let targets = host.targets(alloc, p, view, program)?;
+        *kept = Some(KeptTargets { place: p, targets });
+    }
+    Ok(())
+}
+
 // A place does what comes next in a round, and answers it.
 fn act<P: VertexProgram>(
     alloc: Global,
     hosts: &mut Vec<Option<Host<P>>>,
+    kept: &Option<KeptTargets>,
     p: u8,
     view: &RoundView,
     program: &P,
 ) -> Result<Act<P::Value, P::Acc>, OutOfMemory>
     requires place { p < length hosts.old.items }
     requires needs { IfSome (get_or hosts.old.items p None) (λ h. NeedsHold (P.program_of program.now) p view.now h) }
+    requires kept { AreKept (P.program_of program.now) view.now p hosts.old.items kept.now }
     ensures answer { (h : Held P.Value P.Acc) → get_or hosts.old.items p None ≡ Some h → IfOk result (λ act. act ≡ answer_of (P.program_of program.now) p view.now h (next_of p view.now h)) }
     ensures hosts { (h : Held P.Value P.Acc) → get_or hosts.old.items p None ≡ Some h → OnOk result (hosts.new.items ≡ set hosts.old.items p (Some (acted_host (P.program_of program.now) p view.now h (next_of p view.now h)))) }
+    ensures stand { StandAsBefore hosts.old.items hosts.new.items }
     ensures told { (h : Held P.Value P.Acc) → get_or hosts.old.items p None ≡ Some h → IsTrue (is_told (next_of p view.now h)) → IsOk result }
     ensures err { OnErr result (hosts.new.items ≡ hosts.old.items) }
 {
     match &mut hosts[usize::from(p)] {
         None => Ok(Act::Rest),
-        Some(host) => host.act(alloc, p, view, program),
+        Some(host) => act_with(alloc, host, kept, p, view, program),
+    }
+}
+
+// A host does what comes next in a round with the targets that are kept, and answers it.
+fn act_with<P: VertexProgram>(
+    alloc: Global,
+    host: &mut Host<P>,
+    kept: &Option<KeptTargets>,
+    p: u8,
+    view: &RoundView,
+    program: &P,
+) -> Result<Act<P::Value, P::Acc>, OutOfMemory>
+    requires needs { NeedsHold (P.program_of program.now) p view.now host.old }
+    requires kept { IsTrue (takes_targets host.old.stage (next_of p view.now host.old)) → IsSomeAnd kept.now (λ k. k.targets ≡ targets_of (P.program_of program.now) view.now.epoch view.now.parties p host.old) }
+    ensures answer { IfOk result (λ act. act ≡ answer_of (P.program_of program.now) p view.now host.old (next_of p view.now host.old)) }
+    ensures host { OnOk result (host.new ≡ acted_host (P.program_of program.now) p view.now host.old (next_of p view.now host.old)) }
+    ensures told { IsTrue (is_told (next_of p view.now host.old)) → IsOk result }
+    ensures err { OnErr result (host.new ≡ host.old) }
+{
+    match kept {
+        Some(kept) => host.act(alloc, p, view, program, &kept.targets),
+        None => {
+            let none = Targets::none(alloc);
+            host.act(alloc, p, view, program, &none)
+        }
     }
 }

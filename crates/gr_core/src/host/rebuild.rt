@@ -1,15 +1,14 @@
-ghost use Rattle.std.specs.Prelude.{◌≡◌, ◌<◌, ◌^◌, false, true, length, set, IsTrue, IfOk, OnOk, OnErr};
+ghost use Rattle.std.specs.Prelude.{◌≡◌, ◌<◌, false, true, length, set, IsTrue, IfOk, OnOk, OnErr};
 ghost use Rattle.gr_base.specs.Places.{without_place};
 ghost use Rattle.gr_batch.specs.Stages.{is_end};
 ghost use Rattle.gr_log.specs.Bytes.{size_of};
 ghost use Rattle.gr_log.specs.Log.{with_records};
 ghost use Rattle.gr_rules.specs.Taken.{log_at};
 ghost use Rattle.gr_rules.specs.AtPlace.{due_count};
-ghost use Rattle.gr_round.specs.Line.{is_of_rebuild};
 ghost use Rattle.gr_round.specs.Todo.{todo_of, place_to, todo_in_rebuild};
 ghost use Rattle.gr_rebuild.specs.Ending.{IsAllCommitted};
 ghost use Rattle.gr_cluster.specs.Work.{exchange_of, computed_host};
-ghost use Rattle.gr_law_relies.specs.AtPlace.{ReadyToRebuild, rows_after, arcs_after, body_after, appended_by};
+ghost use Rattle.gr_law_work.specs.AtPlace.{ReadyToRebuild, rows_after, arcs_after, body_after, appended_by};
 
 use crate::host::Host;
 use gr_base::{OutOfMemory, PlaceSet};

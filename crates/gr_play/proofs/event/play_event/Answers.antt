@@ -3,7 +3,7 @@ use Rattle.gr_batch.specs.Telling.{telling}
 use Rattle.gr_report.specs.Goes.{goes_with}
 use Rattle.gr_report.specs.Trace.{outcome_line}
 use Rattle.gr_agree.specs.Agree.{Invariant}
-use Rattle.gr_law_bounds.proofs.Outcomes.{step-goes}
+use Rattle.gr_law_runs.proofs.Bounds.Outcomes.{step-goes}
 use Rattle.gr_play.specs.Inside.Adding.{Adds}
 use Rattle.gr_play.proofs.Onward.{OnErr-map}
 use Rattle.gr_play.proofs.Placed.{placed-work, placed-crash}

@@ -1,4 +1,4 @@
-use Rattle.std.proofs.Common.{◌≡◌, ◌∙◌, sym, ap, refl, false}
+use Rattle.std.proofs.Common.{◌≡◌, ◌∙◌, sym, ap, refl, subst, false}
 use Rattle.gr_sched.specs.declared.event.Event.TheVariants as event
 use Rattle.gr_view.specs.Modes.{is_over}
 use Rattle.gr_cluster.specs.Tables.{Cluster, host}
@@ -10,6 +10,9 @@ use Rattle.gr_core.specs.Steps.{takes_memory}
 use Rattle.gr_core.specs.Turns.{turn_of}
 use Rattle.gr_core.proofs.Acting.{IfOk-same, OnErr-all, told-next}
 use Rattle.gr_core.proofs.Needs.{may-work}
+use Rattle.gr_view.specs.Decisions.{parties}
+use Rattle.gr_core.specs.Targets.{TargetsFit}
+use Rattle.gr_core.proofs.Standing.{fit-stand}
 use Rattle.gr_core.proofs.Kept.{keeps, keeps-stepped}
 use Rattle.gr_core.proofs.Turns.{turn-act, work-step}
 use Rattle.gr_core.proofs.cluster.Cluster.act_at.Goals as goal
@@ -22,7 +25,7 @@ act_in_round-requires-clause-may g c = λ h at.
     let p = c.args.p in
     let over : is_over k.coordinator.mode ≡ false = ap (λ x. is_over x.cluster.coordinator.mode) c.self.view_is ∙ c.requires.going in
     let next : turn_of k.coordinator (host k p) ≡ turn.Act = ap (λ x. turn_of x.cluster.coordinator (host x.cluster p)) c.self.view_is ∙ c.requires.turn in
-    may-work P (g.met.P.VertexProgram.laws s.program) c.self.invariant.state k c.self.invariant.holds over p h at (ap (turn_of k.coordinator) (sym at) ∙ next)
+    may-work P (g.met.P.VertexProgram.laws s.program) c.self.invariant.agrees.state k c.self.invariant.agrees.holds over p h at (ap (turn_of k.coordinator) (sym at) ∙ next)
 
 pub invariant_of-self : goal.invariant_of-self
 invariant_of-self g c =
@@ -36,9 +39,14 @@ invariant_of-self g c =
     let a = c.act_in_round in
     let ok = IfOk-same (record k { hosts = a.new.hosts.items; flight = a.new.flight; serial = a.new.serial; coordinator = a.new.coordinator }) (worked P k p T.at (todo k.coordinator p T.at)) (step P k (event.Work p)) a.result
     (sym (work-step P k p over T.at (todo k.coordinator p T.at) T.is refl)) (a.ensures.ok s.logs.items s.places s.losses T.at T.is) in
-    keeps-stepped P k (record k { hosts = a.new.hosts.items; flight = a.new.flight; serial = a.new.serial; coordinator = a.new.coordinator }) (step P k (event.Work p)) a.result ok
-    (OnErr-all k a.new.hosts.items a.new.flight a.new.serial a.new.coordinator a.result a.ensures.hosts_kept a.ensures.flight_kept a.ensures.serial_kept a.ensures.coordinator_kept)
-    c.self.invariant (keeps P (g.met.P.VertexProgram.laws s.program) k c.self.invariant (event.Work p) tt)
+    let fit = fit-stand P s.coordinator.epoch (parties s.coordinator) s.hosts.items a.new.hosts.items a.new.kept a.ensures.stand a.ensures.targets in
+    record {
+      targets = subst (λ n. TargetsFit P n (parties a.new.coordinator) a.new.hosts.items a.new.kept) (sym a.ensures.epoch)
+          (subst (λ ps. TargetsFit P s.coordinator.epoch ps a.new.hosts.items a.new.kept) (sym a.ensures.parties) fit);
+      agrees = keeps-stepped P k (record k { hosts = a.new.hosts.items; flight = a.new.flight; serial = a.new.serial; coordinator = a.new.coordinator }) (step P k (event.Work p)) a.result ok
+          (OnErr-all k a.new.hosts.items a.new.flight a.new.serial a.new.coordinator a.result a.ensures.hosts_kept a.ensures.flight_kept a.ensures.serial_kept a.ensures.coordinator_kept)
+          c.self.invariant.agrees (keeps P (g.met.P.VertexProgram.laws s.program) k c.self.invariant.agrees (event.Work p) tt);
+    }
 
 pub returns-clause-ok : goal.returns-clause-ok
 returns-clause-ok g c =
@@ -63,7 +71,7 @@ returns-clause-told g c = λ light.
     let over : is_over k.coordinator.mode ≡ false = ap (λ x. is_over x.cluster.coordinator.mode) c.self.view_is ∙ c.requires.going in
     let next : turn_of k.coordinator (host k p) ≡ turn.Act = ap (λ x. turn_of x.cluster.coordinator (host x.cluster p)) c.self.view_is ∙ c.requires.turn in
     let T = (turn-act k.coordinator (host k p) next).0 in
-    let M = may-work P (g.met.P.VertexProgram.laws s.program) c.self.invariant.state k c.self.invariant.holds over p T.at T.is (ap (turn_of k.coordinator) (sym T.is) ∙ next) in
+    let M = may-work P (g.met.P.VertexProgram.laws s.program) c.self.invariant.agrees.state k c.self.invariant.agrees.holds over p T.at T.is (ap (turn_of k.coordinator) (sym T.is) ∙ next) in
     let step_is = work-step P k p over T.at (todo k.coordinator p T.at) T.is refl in
     let light' : takes_memory (event.Work p) (worked P k p T.at (todo k.coordinator p T.at)).1 ≡ false
     = sym (ap (λ x. takes_memory (event.Work p) x.1) step_is) ∙ (ap (λ x. takes_memory (event.Work p) (step (g.P.VertexProgram.program_of x.program) x.cluster (event.Work p)).1) c.self.view_is ∙ light) in

@@ -17,7 +17,7 @@ invariant_of-self g c =
     let over : is_over k.coordinator.mode ≡ false = ap (λ x. is_over x.cluster.coordinator.mode) c.self.view_is ∙ c.requires.going in
     let next : turn_of k.coordinator (host k c.args.p) ≡ turn.Adopt = ap (λ x. turn_of x.cluster.coordinator (host x.cluster c.args.p)) c.self.view_is ∙ c.requires.turn in
     let is = adopt-step P k c.args.p over c.adopt.new.hosts.items c.cut_tail.new.logs.items next (c.adopt.ensures k.coordinator.mode (sym c.is_rebuild-rebuild.ensures)) c.cut_tail.ensures in
-    subst (λ x. Agrees P x.0) (sym is) (keeps P (g.met.P.VertexProgram.laws s.program) k c.self.invariant (event.Work c.args.p) tt)
+    record { agrees = subst (λ x. Agrees P x.0) (sym is) (keeps P (g.met.P.VertexProgram.laws s.program) k c.self.invariant.agrees (event.Work c.args.p) tt); targets = tt }
 
 pub returns-clause-step : goal.returns-clause-step
 returns-clause-step g c =

@@ -29,15 +29,15 @@ barrier-verdict-requires-clause-room g c =
     record {
       epoch = subst (λ x. x.cluster.coordinator.epoch < 2 ^ 64 - 1) (sym c.self.view_is) c.requires.epoch;
       commits = subst (λ x. x.cluster.coordinator.commits < 2 ^ 64 - 1) (sym c.self.view_is) c.requires.commits;
-      rounds = let below = rounds-below P (g.met.P.VertexProgram.laws s.program) k c.self.invariant over in omega (arith, below);
-      spares = c.self.invariant.holds.committed.places.spares;
+      rounds = let below = rounds-below P (g.met.P.VertexProgram.laws s.program) k c.self.invariant.agrees over in omega (arith, below);
+      spares = c.self.invariant.agrees.holds.committed.places.spares;
     }
 
 pub carry_out-requires-clause-few_hosts : goal.carry_out-requires-clause-few_hosts
-carry_out-requires-clause-few_hosts g c = let S = c.self.invariant.holds.committed.shaped in let many = S.hosts in let few = S.few in omega (arith, many, few)
+carry_out-requires-clause-few_hosts g c = let S = c.self.invariant.agrees.holds.committed.shaped in let many = S.hosts in let few = S.few in omega (arith, many, few)
 
 pub carry_out-requires-clause-few_logs : goal.carry_out-requires-clause-few_logs
-carry_out-requires-clause-few_logs g c = let S = c.self.invariant.holds.committed.shaped in let many = S.logs in let few = S.few in omega (arith, many, few)
+carry_out-requires-clause-few_logs g c = let S = c.self.invariant.agrees.holds.committed.shaped in let many = S.logs in let few = S.few in omega (arith, many, few)
 
 pub carry_out-requires-clause-whole : goal.carry_out-requires-clause-whole
 carry_out-requires-clause-whole g c =
@@ -48,7 +48,7 @@ carry_out-requires-clause-whole g c =
     let ps = c.down_among-down.result in
     let x : Coordinator × Verdict = (c.barrier-verdict.new.self, c.barrier-verdict.result) in
     let seen : ps ≡ down_among k (looked_at k.coordinator) = c.down_among-down.ensures ∙ ((λ i. down_among (sym c.self.view_is i).cluster c.looked_at.result) ∙ ap (down_among k) c.looked_at.ensures) in
-    whole-logs P k over ps x seen c.barrier-verdict.ensures.decision c.self.invariant.state c.self.invariant.holds
+    whole-logs P k over ps x seen c.barrier-verdict.ensures.decision c.self.invariant.agrees.state c.self.invariant.agrees.holds
 
 pub invariant_of-self : goal.invariant_of-self
 invariant_of-self g c =
@@ -61,7 +61,7 @@ invariant_of-self g c =
     let seen : ps ≡ down_among k (looked_at k.coordinator) = c.down_among-down.ensures ∙ ((λ i. down_among (sym c.self.view_is i).cluster c.looked_at.result) ∙ ap (down_among k) c.looked_at.ensures) in
     let is = barrier-step P k over ps x seen c.barrier-verdict.ensures.decision c.carry_out.new.hosts.items c.carry_out.new.logs.items c.carry_out.ensures.hosts c.carry_out.ensures.logs in
     let told = ap (λ o. (record k { hosts = c.carry_out.new.hosts.items; logs = c.carry_out.new.logs.items; coordinator = c.barrier-verdict.new.self }, o)) c.carry_out.ensures.outcome ∙ is in
-    subst (λ y. Agrees P y.0) (sym told) (keeps P (g.met.P.VertexProgram.laws s.program) k c.self.invariant event.Barrier tt)
+    record { agrees = subst (λ y. Agrees P y.0) (sym told) (keeps P (g.met.P.VertexProgram.laws s.program) k c.self.invariant.agrees event.Barrier tt); targets = tt }
 
 pub returns-clause-step : goal.returns-clause-step
 returns-clause-step g c =

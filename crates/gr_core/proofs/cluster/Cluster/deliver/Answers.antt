@@ -1,9 +1,12 @@
-use Rattle.std.proofs.Common.{◌≡◌, ◌∙◌, ap, false}
+use Rattle.std.proofs.Common.{◌≡◌, ◌∙◌, sym, ap, subst, false, slice_get}
 use Rattle.gr_sched.specs.declared.event.Event.TheVariants as event
 use Rattle.gr_view.specs.Modes.{is_over}
 use Rattle.gr_cluster.specs.Tables.{Cluster}
 use Rattle.gr_cluster.specs.Step.{step}
 use Rattle.gr_core.proofs.Network.{IfOk-delivered, OnErr-kept, flight-fresh}
+use Rattle.gr_view.specs.Decisions.{parties}
+use Rattle.gr_core.specs.Targets.{TargetsFit}
+use Rattle.gr_core.proofs.Standing.{fit-delivered}
 use Rattle.gr_core.proofs.Kept.{keeps, keeps-stepped}
 use Rattle.gr_core.proofs.cluster.Cluster.deliver.Goals as goal
 
@@ -12,7 +15,7 @@ deliver_from-requires g c = record {
   fresh = λ b is.
       let s = c.self.inside in
       let k : Cluster g.row.P-Value.Denot g.row.P-Acc.Denot = record { hosts = s.hosts.items; logs = s.logs.items; flight = s.flight; serial = s.serial; coordinator = s.coordinator; places = s.places; losses = s.losses; theta = s.theta } in
-      flight-fresh (g.P.VertexProgram.program_of s.program) k c.args.i b c.self.invariant.state c.self.invariant.holds is;
+      flight-fresh (g.P.VertexProgram.program_of s.program) k c.args.i b c.self.invariant.agrees.state c.self.invariant.agrees.holds is;
 }
 
 pub invariant_of-self : goal.invariant_of-self
@@ -24,10 +27,14 @@ invariant_of-self g c =
     let hs = c.deliver_from.new.hosts.items in
     let fl = c.deliver_from.new.flight in
     let over : is_over k.coordinator.mode ≡ false = ap (λ x. is_over x.cluster.coordinator.mode) c.self.view_is ∙ c.requires in
-    keeps-stepped P k (record k { hosts = hs; flight = fl }) (step P k (event.Deliver c.args.i)) r
-    (IfOk-delivered P k c.args.i r hs fl over c.deliver_from.ensures.ok)
-    (OnErr-kept P k c.args.i r hs fl c.deliver_from.ensures.hosts_kept c.deliver_from.ensures.flight_kept)
-    c.self.invariant (keeps P (g.met.P.VertexProgram.laws s.program) k c.self.invariant (event.Deliver c.args.i) tt)
+    let fit = fit-delivered P s.coordinator.epoch (parties s.coordinator) s.hosts.items hs (slice_get s.flight c.args.i) s.kept c.deliver_from.ensures.others c.self.invariant.targets in
+    record {
+      targets = subst (TargetsFit P s.coordinator.epoch (parties s.coordinator) hs) (sym c.forget_receiver.ensures) fit;
+      agrees = keeps-stepped P k (record k { hosts = hs; flight = fl }) (step P k (event.Deliver c.args.i)) r
+          (IfOk-delivered P k c.args.i r hs fl over c.deliver_from.ensures.ok)
+          (OnErr-kept P k c.args.i r hs fl c.deliver_from.ensures.hosts_kept c.deliver_from.ensures.flight_kept)
+          c.self.invariant.agrees (keeps P (g.met.P.VertexProgram.laws s.program) k c.self.invariant.agrees (event.Deliver c.args.i) tt);
+    }
 
 pub returns-clause-ok : goal.returns-clause-ok
 returns-clause-ok g c =

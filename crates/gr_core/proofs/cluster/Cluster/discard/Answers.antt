@@ -21,10 +21,10 @@ discard-epoch-requires-clause-crashed g c =
     ap (includes (parties co)) seen ∙ includes-down t (parties co)
 
 pub send_back-requires-clause-few_hosts : goal.send_back-requires-clause-few_hosts
-send_back-requires-clause-few_hosts g c = let S = c.self.invariant.holds.committed.shaped in let many = S.hosts in let few = S.few in omega (arith, many, few)
+send_back-requires-clause-few_hosts g c = let S = c.self.invariant.agrees.holds.committed.shaped in let many = S.hosts in let few = S.few in omega (arith, many, few)
 
 pub send_back-requires-clause-few_logs : goal.send_back-requires-clause-few_logs
-send_back-requires-clause-few_logs g c = let S = c.self.invariant.holds.committed.shaped in let many = S.logs in let few = S.few in omega (arith, many, few)
+send_back-requires-clause-few_logs g c = let S = c.self.invariant.agrees.holds.committed.shaped in let many = S.logs in let few = S.few in omega (arith, many, few)
 
 pub invariant_of-self : goal.invariant_of-self
 invariant_of-self g c =
@@ -38,9 +38,9 @@ invariant_of-self g c =
     let back = c.going_back-back.ensures in
     let hosts = c.send_back.ensures.hosts ∙ ap (λ qs. changed_at qs (λ _ _. None) k.hosts) back in
     let logs = c.send_back.ensures.logs ∙ ap (λ qs. changed_at qs (λ _. cut_log) k.logs) back in
-    let is = discard-step P k over c.self.invariant.holds.committed.places.none_reborn ps x c.send_back.new.hosts.items c.send_back.new.logs.items seen c.discard-epoch.ensures.decision hosts logs in
+    let is = discard-step P k over c.self.invariant.agrees.holds.committed.places.none_reborn ps x c.send_back.new.hosts.items c.send_back.new.logs.items seen c.discard-epoch.ensures.decision hosts logs in
     let told = ap (λ o. (record k { hosts = c.send_back.new.hosts.items; logs = c.send_back.new.logs.items; coordinator = c.discard-epoch.new.self }, o)) c.discarded.ensures ∙ is in
-    subst (λ y. Agrees P y.0) (sym told) (keeps P (g.met.P.VertexProgram.laws s.program) k c.self.invariant event.Discard tt)
+    record { agrees = subst (λ y. Agrees P y.0) (sym told) (keeps P (g.met.P.VertexProgram.laws s.program) k c.self.invariant.agrees event.Discard tt); targets = tt }
 
 pub returns-clause-step : goal.returns-clause-step
 returns-clause-step g c =
@@ -54,5 +54,5 @@ returns-clause-step g c =
     let back = c.going_back-back.ensures in
     let hosts = c.send_back.ensures.hosts ∙ ap (λ qs. changed_at qs (λ _ _. None) k.hosts) back in
     let logs = c.send_back.ensures.logs ∙ ap (λ qs. changed_at qs (λ _. cut_log) k.logs) back in
-    let is = discard-step P k over c.self.invariant.holds.committed.places.none_reborn ps x c.send_back.new.hosts.items c.send_back.new.logs.items seen c.discard-epoch.ensures.decision hosts logs in
+    let is = discard-step P k over c.self.invariant.agrees.holds.committed.places.none_reborn ps x c.send_back.new.hosts.items c.send_back.new.logs.items seen c.discard-epoch.ensures.decision hosts logs in
     rw (← c.self.view_is) (ap (λ o. (record k { hosts = c.send_back.new.hosts.items; logs = c.send_back.new.logs.items; coordinator = c.discard-epoch.new.self }, o)) c.discarded.ensures ∙ is)

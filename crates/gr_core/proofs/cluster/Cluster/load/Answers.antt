@@ -20,16 +20,19 @@ invariant_of-result g c =
     let vs = ids xs in
     let U = loaded-undisturbed P laws job graph (omega arith) c.requires.edges c.requires.vertices in
     let coordinator : c.new-2.result ≡ first_coordinator s.places s.spares s.limit (nat_lt 0 (length vs)) = c.new-2.ensures ∙ ap (λ n. first_coordinator s.places s.spares s.limit (nat_lt 0 n)) (c.vertex_count-any_vertex.ensures.count ∙ sym (length-map xs id_of)) in
-    subst (Agrees P) (sym ((λ i. record {
-      hosts = c.in_ok-hosts.ensures.hosts i;
-      logs = c.in_ok-hosts.ensures.logs i;
-      flight = c.new.ensures i;
-      serial = 0;
-      coordinator = coordinator i;
-      places = s.places;
-      losses = s.losses;
-      theta = s.theta;
-    }) ∙ load-is P s es vs)) (record { state = U.0; holds = U.1.agrees })
+    record {
+      targets = tt;
+      agrees = subst (Agrees P) (sym ((λ i. record {
+        hosts = c.in_ok-hosts.ensures.hosts i;
+        logs = c.in_ok-hosts.ensures.logs i;
+        flight = c.new.ensures i;
+        serial = 0;
+        coordinator = coordinator i;
+        places = s.places;
+        losses = s.losses;
+        theta = s.theta;
+      }) ∙ load-is P s es vs)) (record { state = U.0; holds = U.1.agrees });
+    }
 
 pub returns-clause-cluster : goal.returns-clause-cluster
 returns-clause-cluster g c =

@@ -9,4 +9,4 @@ returns-clause-few g c =
     let s = c.self.inside in
     let P = g.P.VertexProgram.program_of s.program in
     let k : Cluster g.row.P-Value.Denot g.row.P-Acc.Denot = record { hosts = s.hosts.items; logs = s.logs.items; flight = s.flight; serial = s.serial; coordinator = s.coordinator; places = s.places; losses = s.losses; theta = s.theta } in
-    subst (λ x. length (lost_list x.cluster) < 2 ^ 32) c.self.view_is (lost-few P c.self.invariant.state k c.self.invariant.holds)
+    subst (λ x. length (lost_list x.cluster) < 2 ^ 32) c.self.view_is (lost-few P c.self.invariant.agrees.state k c.self.invariant.agrees.holds)

@@ -21,9 +21,9 @@ returns-clause-next g c =
     let slot = c.index.result.now in
     let next : turn_of k.coordinator (host k p) ≡ turn.Rebuild = ap (λ x. turn_of x.cluster.coordinator (host x.cluster p)) c.self.view_is ∙ c.requires.turn in
     let fits : p < k.places = subst (λ x. p < x.cluster.places) (sym c.self.view_is) c.requires.place in
-    let whole : length k.hosts ≡ k.places = c.self.invariant.holds.committed.shaped.hosts in
+    let whole : length k.hosts ≡ k.places = c.self.invariant.agrees.holds.committed.shaped.hosts in
     let lt : p < length k.hosts = omega (arith, fits, whole) in
     let slot_is : slot ≡ host k p = c.index.ensures ∙ ap (λ n. get_or k.hosts n slot) c.from.ensures ∙ get_or_default k.hosts p slot None lt in
     let has : (h : Host g.row.P-Value.Denot g.row.P-Acc.Denot) → host k p ≡ Some h → x ≡ todo_in_rebuild h.inbox h.epoch (others k.coordinator p) (exchange_of h) h.appended h.reported
     = λ h at. subst (λ ps. x ≡ todo_in_rebuild h.inbox h.epoch (without_place ps p) (exchange_of h) h.appended h.reported) c.parties-parties.ensures (c.next_in_rebuild.ensures.next h (slot_is ∙ at)) in
-    subst (λ t. HasToDo t.cluster p x) c.self.view_is (has-to-do P k c.self.invariant p next x has)
+    subst (λ t. HasToDo t.cluster p x) c.self.view_is (has-to-do P k c.self.invariant.agrees p next x has)

@@ -17,10 +17,10 @@ returns-then-not-is_failed-clause-ok g c =
     recover-idle (g.P.VertexProgram.program_of t.program) t.cluster c.requires.going well c.args.rebirth
 
 pub start_spares-requires-clause-as_many : goal.start_spares-requires-clause-as_many
-start_spares-requires-clause-as_many g c = let S = c.self.invariant.holds.committed.shaped in S.logs ∙ sym S.hosts
+start_spares-requires-clause-as_many g c = let S = c.self.invariant.agrees.holds.committed.shaped in S.logs ∙ sym S.hosts
 
 pub start_spares-requires-clause-few : goal.start_spares-requires-clause-few
-start_spares-requires-clause-few g c = let S = c.self.invariant.holds.committed.shaped in let many = S.hosts in let few = S.few in omega (arith, many, few)
+start_spares-requires-clause-few g c = let S = c.self.invariant.agrees.holds.committed.shaped in let many = S.hosts in let few = S.few in omega (arith, many, few)
 
 pub invariant_of-self-2 : goal.invariant_of-self-2
 invariant_of-self-2 g c =
@@ -33,7 +33,7 @@ invariant_of-self-2 g c =
     let many : n ≡ length (lost_list k) = c.len-lost.ensures ∙ (ap length c.in_ok-lost.ensures.list ∙ ap (λ x. length (lost_list x.cluster)) (sym c.self.view_is)) in
     let is = recover-step P k over c.args.rebirth n x c.start_spares.new.hosts.items c.start_spares.new.logs.items many c.open_recovery-opening.ensures.decision c.in_ok-start_spares.ensures.hosts c.in_ok-start_spares.ensures.logs in
     let told = ap (λ o. (record k { hosts = c.start_spares.new.hosts.items; logs = c.start_spares.new.logs.items; coordinator = c.open_recovery-opening.new.self }, o)) c.opened.ensures ∙ is in
-    subst (λ y. Agrees P y.0) (sym told) (keeps P (g.met.P.VertexProgram.laws s.program) k c.self.invariant (event.Recover c.args.rebirth) c.has-first.ensures.places)
+    record { agrees = subst (λ y. Agrees P y.0) (sym told) (keeps P (g.met.P.VertexProgram.laws s.program) k c.self.invariant.agrees (event.Recover c.args.rebirth) c.has-first.ensures.places); targets = tt }
 
 pub returns-clause-ok : goal.returns-clause-ok
 returns-clause-ok g c =

@@ -15,7 +15,7 @@ report-due-requires-clause-computed g c =
     let k : Cluster g.row.P-Value.Denot g.row.P-Acc.Denot = record { hosts = s.hosts.items; logs = s.logs.items; flight = s.flight; serial = s.serial; coordinator = s.coordinator; places = s.places; losses = s.losses; theta = s.theta } in
     let p = c.args.p in
     let N : HasToDo k p (Todo.Report) = subst (λ x. HasToDo x.cluster p (Todo.Report)) (sym c.self.view_is) c.requires.next in
-    computed-here P k c.self.invariant p N
+    computed-here P k c.self.invariant.agrees p N
 
 pub report-due-requires-clause-end : goal.report-due-requires-clause-end
 report-due-requires-clause-end g c =
@@ -24,7 +24,7 @@ report-due-requires-clause-end g c =
     let k : Cluster g.row.P-Value.Denot g.row.P-Acc.Denot = record { hosts = s.hosts.items; logs = s.logs.items; flight = s.flight; serial = s.serial; coordinator = s.coordinator; places = s.places; losses = s.losses; theta = s.theta } in
     let p = c.args.p in
     let N : HasToDo k p (Todo.Report) = subst (λ x. HasToDo x.cluster p (Todo.Report)) (sym c.self.view_is) c.requires.next in
-    end-here P k c.self.invariant p N
+    end-here P k c.self.invariant.agrees p N
 
 pub report-requires-clause-party : goal.report-requires-clause-party
 report-requires-clause-party g c =
@@ -33,7 +33,7 @@ report-requires-clause-party g c =
     let k : Cluster g.row.P-Value.Denot g.row.P-Acc.Denot = record { hosts = s.hosts.items; logs = s.logs.items; flight = s.flight; serial = s.serial; coordinator = s.coordinator; places = s.places; losses = s.losses; theta = s.theta } in
     let p = c.args.p in
     let N : HasToDo k p (Todo.Report) = subst (λ x. HasToDo x.cluster p (Todo.Report)) (sym c.self.view_is) c.requires.next in
-    (report-fits P k c.self.invariant p N c.report-due.result c.report-due.ensures.due).party
+    (report-fits P k c.self.invariant.agrees p N c.report-due.result c.report-due.ensures.due).party
 
 pub report-requires-clause-first : goal.report-requires-clause-first
 report-requires-clause-first g c =
@@ -42,7 +42,7 @@ report-requires-clause-first g c =
     let k : Cluster g.row.P-Value.Denot g.row.P-Acc.Denot = record { hosts = s.hosts.items; logs = s.logs.items; flight = s.flight; serial = s.serial; coordinator = s.coordinator; places = s.places; losses = s.losses; theta = s.theta } in
     let p = c.args.p in
     let N : HasToDo k p (Todo.Report) = subst (λ x. HasToDo x.cluster p (Todo.Report)) (sym c.self.view_is) c.requires.next in
-    (report-fits P k c.self.invariant p N c.report-due.result c.report-due.ensures.due).first
+    (report-fits P k c.self.invariant.agrees p N c.report-due.result c.report-due.ensures.due).first
 
 pub report-requires-clause-sum : goal.report-requires-clause-sum
 report-requires-clause-sum g c =
@@ -51,7 +51,7 @@ report-requires-clause-sum g c =
     let k : Cluster g.row.P-Value.Denot g.row.P-Acc.Denot = record { hosts = s.hosts.items; logs = s.logs.items; flight = s.flight; serial = s.serial; coordinator = s.coordinator; places = s.places; losses = s.losses; theta = s.theta } in
     let p = c.args.p in
     let N : HasToDo k p (Todo.Report) = subst (λ x. HasToDo x.cluster p (Todo.Report)) (sym c.self.view_is) c.requires.next in
-    (report-fits P k c.self.invariant p N c.report-due.result c.report-due.ensures.due).sum
+    (report-fits P k c.self.invariant.agrees p N c.report-due.result c.report-due.ensures.due).sum
 
 pub invariant_of-self : goal.invariant_of-self
 invariant_of-self g c =
@@ -60,8 +60,8 @@ invariant_of-self g c =
     let k : Cluster g.row.P-Value.Denot g.row.P-Acc.Denot = record { hosts = s.hosts.items; logs = s.logs.items; flight = s.flight; serial = s.serial; coordinator = s.coordinator; places = s.places; losses = s.losses; theta = s.theta } in
     let p = c.args.p in
     let N : HasToDo k p (Todo.Report) = subst (λ x. HasToDo x.cluster p (Todo.Report)) (sym c.self.view_is) c.requires.next in
-    let is = reported-step P k c.self.invariant p N c.report-due.new.hosts.items c.report.new.self c.report-due.result c.report-due.ensures.hosts c.report-due.ensures.due c.report.ensures in
-    subst (λ x. Agrees P x.0) (sym is) (keeps P (g.met.P.VertexProgram.laws s.program) k c.self.invariant (event.Work p) tt)
+    let is = reported-step P k c.self.invariant.agrees p N c.report-due.new.hosts.items c.report.new.self c.report-due.result c.report-due.ensures.hosts c.report-due.ensures.due c.report.ensures in
+    record { agrees = subst (λ x. Agrees P x.0) (sym is) (keeps P (g.met.P.VertexProgram.laws s.program) k c.self.invariant.agrees (event.Work p) tt); targets = tt }
 
 pub returns-clause-step : goal.returns-clause-step
 returns-clause-step g c =
@@ -70,5 +70,5 @@ returns-clause-step g c =
     let k : Cluster g.row.P-Value.Denot g.row.P-Acc.Denot = record { hosts = s.hosts.items; logs = s.logs.items; flight = s.flight; serial = s.serial; coordinator = s.coordinator; places = s.places; losses = s.losses; theta = s.theta } in
     let p = c.args.p in
     let N : HasToDo k p (Todo.Report) = subst (λ x. HasToDo x.cluster p (Todo.Report)) (sym c.self.view_is) c.requires.next in
-    let is = reported-step P k c.self.invariant p N c.report-due.new.hosts.items c.report.new.self c.report-due.result c.report-due.ensures.hosts c.report-due.ensures.due c.report.ensures in
+    let is = reported-step P k c.self.invariant.agrees p N c.report-due.new.hosts.items c.report.new.self c.report-due.result c.report-due.ensures.hosts c.report-due.ensures.due c.report.ensures in
     rw (← c.self.view_is) is

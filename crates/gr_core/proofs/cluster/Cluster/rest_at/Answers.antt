@@ -14,4 +14,4 @@ returns g c =
     let p = c.args.p in
     let over : is_over k.coordinator.mode ≡ false = ap (λ x. is_over x.cluster.coordinator.mode) c.self.view_is ∙ c.requires.going in
     let next : turn_of k.coordinator (host k p) ≡ turn.Rest = ap (λ x. turn_of x.cluster.coordinator (host x.cluster p)) c.self.view_is ∙ c.requires.turn in
-    rw (← c.self.view_is) (rest-step P (g.met.P.VertexProgram.laws s.program) c.self.invariant.state k c.self.invariant.holds over p next)
+    rw (← c.self.view_is) (rest-step P (g.met.P.VertexProgram.laws s.program) c.self.invariant.agrees.state k c.self.invariant.agrees.holds over p next)

@@ -1,8 +1,34 @@
-use Rattle.std.proofs.Common.{◌<◌, arith, sym, subst, [], get_or, length, None}
+use Rattle.std.proofs.Common.{ℕ, List, ◌≡◌, ◌∙◌, true, false, ap, ◌<◌, arith, sym, subst, [], get_or, length, None}
 use Rattle.gr_round.specs.declared.act.Act.TheVariants as act
 use Rattle.gr_core.specs.Works.{cluster_of}
-use Rattle.gr_core.proofs.Acting.{IfSome-each, up-is, OnErr-then, needs-here, answer-seen, hosts-seen, report-fits, line-fits, sent-ok, sent-same, done-computed, done-waiting, done-rest, done-ready}
+use Rattle.std.specs.Prelude.{IsOk}
+use Rattle.gr_round.specs.declared.view.RoundView.{RoundView}
+use Rattle.gr_round.specs.Kept.{takes_targets}
+use Rattle.gr_cluster.specs.Todo.{todo}
+use Rattle.gr_core.specs.Steps.{next_of}
+use Rattle.gr_core.proofs.Standing.{stand-trans, told-takes}
+use Rattle.gr_core.proofs.Acting.{next-is, IfSome-each, up-is, OnErr-then, needs-here, answer-seen, hosts-seen, report-fits, line-fits, sent-ok, sent-same, done-computed, done-waiting, done-rest, done-ready}
 use Rattle.gr_core.proofs.cluster.work.act_in_round.Goals as goal
+
+pub keep_targets-requires-clause-needs : goal.keep_targets-requires-clause-needs
+keep_targets-requires-clause-needs g c = IfSome-each (get_or c.as_slice.result.now c.args.p None) (λ h at.
+    needs-here (g.P.VertexProgram.program_of c.args.program.now) c.args.coordinator.now c.args.p h c.args.serial.now c.args.theta c.parties.result c.parties.ensures
+    (c.requires.may h (ap (λ l. get_or l c.args.p None) (sym c.as_slice.ensures.value) ∙ at)))
+
+-- what only tells something takes no targets, and so no memory
+pub returns-in_err-keep_targets-clause-told : goal.returns-in_err-keep_targets-clause-told
+returns-in_err-keep_targets-clause-told g c = λ h at light.
+    let P = g.P.VertexProgram.program_of c.args.program.now in
+    let co = c.args.coordinator.now in
+    let p = c.args.p in
+    let view : List ℕ → RoundView = λ ps. record { epoch = co.epoch; round = co.round; parties = ps; serial = c.args.serial.now; theta = c.args.theta } in
+    let next = ap (λ ps. next_of p (view ps) h) c.parties.ensures ∙ next-is P co p h (c.requires.may h at) c.args.serial.now c.args.theta in
+    let takes = ap (takes_targets h.stage) next ∙ told-takes h.stage (todo co p h) light in
+    let ok = c.keep_targets.ensures.ok h (ap (λ l. get_or l p None) c.as_slice.ensures.value ∙ at) takes in
+    absurd (let bad : false ≡ true = subst IsOk c.in_err-keep_targets.was ok in cc)
+
+pub returns-in-Sent-clause-stand : goal.returns-in-Sent-clause-stand
+returns-in-Sent-clause-stand g c = stand-trans c.args.hosts.now.items c.act.new.hosts.items c.send.new.hosts.items c.act.ensures.stand c.send.ensures.stand
 
 pub act-requires-clause-needs : goal.act-requires-clause-needs
 act-requires-clause-needs g c = IfSome-each (get_or c.args.hosts.now.items c.args.p None) (λ h at.

@@ -1,6 +1,6 @@
 use Rattle.std.proofs.Common.{◌∙◌, ap}
 use Rattle.gr_report.specs.Goes.{goes_with}
-use Rattle.gr_law_bounds.proofs.Outcomes.{step-goes}
+use Rattle.gr_law_runs.proofs.Bounds.Outcomes.{step-goes}
 use Rattle.gr_stepped.proofs.Raised.{stepped-raised}
 use Rattle.gr_stepped.proofs.tests.stepped.step.Goals as goal
 

@@ -1,0 +1,46 @@
+-- What a cluster keeps of what a place has worked out.
+use Rattle.std.specs.Prelude.{ℕ, Bool, false, ◌==◌, if◌then◌else◌, ◌≡◌, List, Option, Some, None, IfSome, IsSomeAnd, IsTrue, get_or}
+use Rattle.gr_base.specs.Places.{without_place}
+use Rattle.gr_program.specs.Program.{Program}
+use Rattle.gr_batch.specs.declared.batch.Batch.{Batch}
+use Rattle.gr_signal.specs.declared.target.Target.{Target}
+use Rattle.gr_round.specs.declared.view.RoundView.{RoundView}
+use Rattle.gr_round.specs.Kept.{targets_at, takes_targets}
+use Rattle.gr_cluster.specs.Tables.{Host}
+use Rattle.gr_core.specs.declared.targets.KeptTargets.{KeptTargets}
+use Rattle.gr_core.specs.Steps.{next_of}
+
+-- whether the targets that are kept are those of a place
+abbrev pub is_kept_at : Option KeptTargets → ℕ → Bool
+is_kept_at None p = false
+is_kept_at (Some k) p = k.place == p
+
+-- they are forgotten when a batch comes to their place
+abbrev pub forgotten : {V A : Type 0} → Option (Batch V A) → Option KeptTargets → Option KeptTargets
+forgotten None kept = kept
+forgotten (Some b) kept = if is_kept_at kept b.receiver then None else kept
+
+module _ {V A : Type 0} where
+  -- the targets of what woke at a host, in an epoch with these parties
+  abbrev pub targets_of : Program V A → ℕ → List ℕ → ℕ → Host V A → List Target
+  targets_of P e ps p h = targets_at P p e (without_place ps p) h.inbox h.stable h.arcs
+
+  -- the targets that are kept are those of their place
+  abbrev pub TargetsFit : Program V A → ℕ → List ℕ → List (Option (Host V A)) → Option KeptTargets → Type 0
+  TargetsFit P e ps hosts kept = IfSome kept (λ k. (h : Host V A) → get_or hosts k.place None ≡ Some h → k.targets ≡ targets_of P e ps k.place h)
+
+  -- they are kept if the next work of a place takes them
+  abbrev pub AreKept : Program V A → RoundView → ℕ → List (Option (Host V A)) → Option KeptTargets → Type 0
+  AreKept P w p hosts kept = (h : Host V A) → get_or hosts p None ≡ Some h → IsTrue (takes_targets h.stage (next_of p w h))
+      → IsSomeAnd kept (λ k. k.targets ≡ targets_of P w.epoch w.parties p h)
+
+  -- a host has the copies, the edges and the inbox that the host of the place had
+  pub record StandsAsBefore (hosts : List (Option (Host V A))) (p : ℕ) (h : Host V A) : Type 0 where
+    pub before : Host V A
+    pub is : get_or hosts p None ≡ Some before
+    pub stable : h.stable ≡ before.stable
+    pub arcs : h.arcs ≡ before.arcs
+    pub inbox : h.inbox ≡ before.inbox
+
+  abbrev pub StandAsBefore : List (Option (Host V A)) → List (Option (Host V A)) → Type 0
+  StandAsBefore hosts after = (p : ℕ) (h : Host V A) → get_or after p None ≡ Some h → StandsAsBefore hosts p h
