@@ -111,41 +111,6 @@ none-left (h ∷ hs) dead = elim (cases_Bool (has dead h)) [
       ((λ e. let no = sym same ∙ e in cc), (λ a. let yes = All-head (λ q. has dead q ≡ true) h hs a in cc))
 ]
 
--- a set without those of another below a bound, one bound more
-pub left-more : (hs dead : List ℕ) (p : ℕ) → has dead p ≡ true → without_place (filter (λ q. not (ltb q p && has dead q)) hs) p ≡ filter (λ q. not (ltb q (p + 1) && has dead q)) hs
-left-more hs dead p gone = filter-filter (λ q. not (eqb q p)) (λ q. not (ltb q p && has dead q)) hs ∙ filter-same _ _ hs (λ k d lt. step (get_or hs k d))
-  where
-    step : (q : ℕ) → (not (ltb q p && has dead q) && not (eqb q p)) ≡ not (ltb q (p + 1) && has dead q)
-    step q = elim (cases_order q p) [
-      | inl same ↦ let here : has dead q ≡ true = ap (has dead) same ∙ gone in rw (eq-eqb q p same, le-ltb q p (omega arith), lt-ltb q (p + 1) (omega arith), here) refl
-      | inr o ↦ elim o [
-        | inl lt ↦ rw (ne_eqb q p (λ e. omega arith), lt-ltb q p lt, lt-ltb q (p + 1) (omega arith)) (kept (has dead q))
-        | inr gt ↦ rw (ne_eqb q p (λ e. omega arith), le-ltb q p (omega arith), le-ltb q (p + 1) (omega arith)) refl
-      ]
-    ]
-      where
-        kept : (b : Bool) → (not b && true) ≡ not b
-        kept true = refl
-        kept false = refl
-
-pub left-same : (hs dead : List ℕ) (p : ℕ) → has dead p ≡ false → filter (λ q. not (ltb q p && has dead q)) hs ≡ filter (λ q. not (ltb q (p + 1) && has dead q)) hs
-left-same hs dead p stays = filter-same _ _ hs (λ k d lt. step (get_or hs k d))
-  where
-    step : (q : ℕ) → not (ltb q p && has dead q) ≡ not (ltb q (p + 1) && has dead q)
-    step q = elim (cases_order q p) [
-      | inl same ↦ let here : has dead q ≡ false = ap (has dead) same ∙ stays in rw (le-ltb q p (omega arith), lt-ltb q (p + 1) (omega arith), here) refl
-      | inr o ↦ elim o [
-        | inl lt ↦ rw (lt-ltb q p lt, lt-ltb q (p + 1) (omega arith)) refl
-        | inr gt ↦ rw (le-ltb q p (omega arith), le-ltb q (p + 1) (omega arith)) refl
-      ]
-    ]
-
-pub left-all : (hs dead : List ℕ) → All (λ q. q < 64) hs → filter (λ q. not (ltb q 64 && has dead q)) hs ≡ without hs dead
-left-all hs dead low = filter-same _ _ hs (λ k d lt. ap (λ (b : Bool). not (b && has dead (get_or hs k d))) (lt-ltb (get_or hs k d) 64 (low k d lt)))
-
-pub left-first : (hs dead : List ℕ) → hs ≡ filter (λ q. not (ltb q 0 && has dead q)) hs
-left-first hs dead = sym (filter-all (λ q. not (ltb q 0 && has dead q)) hs (λ k d lt. ap (λ (b : Bool). not (b && has dead (get_or hs k d))) (le-ltb (get_or hs k d) 0 (omega arith))))
-
 -- a member is below what all members are below
 pub member-below : (hs : List ℕ) (m n : ℕ) → has hs m ≡ true → All (λ q. q < n) hs → m < n
 member-below [] m n stands low = cc

@@ -9,7 +9,6 @@ ghost use Rattle.gr_copies.specs.Holders.{first_directory, further};
 ghost use Rattle.gr_copies.specs.Ends.{is_end, AreEnds, IsMarked};
 
 use crate::further::next_places;
-use crate::granter::without;
 use gr_base::{Directory, Edge, Items, OutOfMemory, PlaceSet};
 use gr_cut::PlaceEdges;
 use gr_edges::{Graph, VertexInfo};
@@ -136,6 +135,6 @@ fn holders_of(needed: PlaceSet, home: u8, places: u8, losses: u8) -> PlaceSet
     let _known = needed.has(0);
     let copies = (u32::from(losses) + 1).min(u32::from(places));
     let missing = copies.saturating_sub(needed.count());
-    let candidates = without(PlaceSet::all(places), needed);
+    let candidates = PlaceSet::all(places).difference(needed);
     next_places(needed, candidates, home, missing)
 }

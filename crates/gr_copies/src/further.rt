@@ -4,7 +4,6 @@ ghost use Rattle.gr_base.specs.Rising.{has, includes};
 ghost use Rattle.gr_base.specs.Places.{IsPlaces, below, ring};
 ghost use Rattle.gr_copies.specs.Holders.{extras as extra_holders};
 
-use crate::granter::without;
 use gr_base::{Directory, PlaceSet};
 
 /// The live places that are to hold a vertex besides its holders: the next in ring order after its master, until
@@ -18,7 +17,7 @@ pub fn extras(dir: &Directory, live: PlaceSet, places: u8, need: u32) -> PlaceSe
 {
     let target = need.min(live.count());
     let missing = target.saturating_sub(dir.holders.count());
-    let candidates = without(live, dir.holders);
+    let candidates = live.difference(dir.holders);
     let _known = dir.holders.has(0);
     next_places(PlaceSet::none(), candidates, dir.master, missing)
 }

@@ -13,20 +13,5 @@ pub fn acting_master(dir: &Directory, dead: PlaceSet) -> Option<u8>
     ensures granter { result ≡ granter dead dir.now.master dir.now.holders }
     ensures none { IsNone result ↔ All (λ q. has dead q ≡ true) dir.now.holders }
 {
-    without(dir.holders, dead).first_from(dir.master)
-}
-
-/// The places of a set that are not in another.
-pub fn without(places: PlaceSet, gone: PlaceSet) -> PlaceSet
-    ensures left { result ≡ less places gone }
-    ensures places { IsPlaces places }
-{
-    let _known = places.has(0);
-    let mut left = places;
-    for p in 0..64 {
-        if gone.has(p) {
-            left = left.without(p);
-        }
-    }
-    left
+    dir.holders.difference(dead).first_from(dir.master)
 }

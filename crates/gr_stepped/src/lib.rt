@@ -1,4 +1,4 @@
-//! Clusters that are stepped through small worlds, step by step. Tests alone.
+//! Clusters that are stepped through small worlds, step by step. It has tests only.
 #![tactic(auto)]
 
 #[cfg(test)]

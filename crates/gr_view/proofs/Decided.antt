@@ -19,12 +19,8 @@ use Rattle.gr_view.specs.Decisions.{parties, unready, failed, raised, sent_back,
 
 -- ---- the least party without a report
 
-first-is-least : (ps : List ℕ) → first_from ps 0 ≡ slice_get ps 0
-first-is-least [] = refl
-first-is-least (p ∷ ps) = ap (λ (o : Option ℕ). option_or o (Some p)) (cond-true (leb 0 p) (Some p) (find (λ q. leb 0 q) ps) (le-leb 0 p (omega arith)))
-
-pub unready-first : (co : Coordinator) → first_from (without (parties co) co.ready) 0 ≡ unready co
-unready-first co = first-is-least (without (parties co) co.ready) ∙ sym (find-filter (λ p. not (has co.ready p)) (parties co))
+pub unready-first : (co : Coordinator) → slice_get (without (parties co) co.ready) 0 ≡ unready co
+unready-first co = sym (find-filter (λ p. not (has co.ready p)) (parties co))
 
 -- ---- a recovery
 

@@ -1,3 +1,2 @@
 mod Decided
-mod Sets
 mod Worked

@@ -5,7 +5,6 @@ ghost use Rattle.gr_view.specs.Decisions.{first_coordinator, parties, reported, 
 ghost use Rattle.gr_view.specs.Room.{HasRoom};
 ghost use Rattle.gr_view.specs.Answers.{ToldFailed, ToldNotReady, ToldIdle, opens_nothing, tells_loss};
 
-use crate::places::{difference, includes, union};
 use gr_base::PlaceSet;
 
 /// What the cluster is at: rounds of the program, a failure that was found, a recovery from it, a repair of missing
@@ -121,7 +120,7 @@ impl Coordinator {
     pub fn parties(&self) -> PlaceSet
         ensures { result ≡ parties self.now }
     {
-        union(self.live, self.reborn)
+        self.live.union(self.reborn)
     }
 
     /// A party reports that it is ready, once in an epoch, with the number of vertices that it masters and that are due
@@ -153,7 +152,7 @@ impl Coordinator {
         requires spares { self.old.spares + length self.old.reborn ≤ 255 }
         ensures { self.new ≡ sent_back self.old crashed }
     {
-        let back = difference(self.reborn, crashed).count() as u8;
+        let back = self.reborn.difference(crashed).count() as u8;
         self.raise_epoch();
         self.mode = Mode::Failed;
         self.spares += back;
@@ -166,8 +165,8 @@ impl Coordinator {
         requires spares { self.old.spares + length self.old.reborn ≤ 255 }
         ensures { self.new ≡ failed self.old crashed }
     {
-        self.live = difference(self.live, crashed);
-        self.dead = union(self.dead, crashed);
+        self.live = self.live.difference(crashed);
+        self.dead = self.dead.union(crashed);
         self.send_back(crashed);
     }
 
@@ -175,7 +174,7 @@ impl Coordinator {
     fn unready(&self) -> Option<u8>
         ensures { result ≡ unready self.now }
     {
-        difference(self.parties(), self.ready).first_from(0)
+        self.parties().difference(self.ready).first()
     }
 
     // The round or the rebuild takes effect.
@@ -215,8 +214,8 @@ impl Coordinator {
         self.raise_epoch();
         self.commits += 1;
         self.mode = Mode::Running;
-        self.live = union(self.live, self.reborn);
-        self.retired = union(self.retired, difference(self.dead, self.reborn));
+        self.live = self.live.union(self.reborn);
+        self.retired = self.retired.union(self.dead.difference(self.reborn));
         self.dead = PlaceSet::none();
         self.reborn = PlaceSet::none();
     }
@@ -286,7 +285,7 @@ impl Coordinator {
         ensures { result ≡ may_recover self.now rebirth }
     {
         self.mode.is_failed()
-            & includes(self.dead, rebirth)
+            & self.dead.includes(rebirth)
             & (rebirth.count() <= u32::from(self.spares))
     }
 

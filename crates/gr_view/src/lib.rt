@@ -2,7 +2,6 @@
 #![tactic(auto)]
 
 mod coordinator;
-mod places;
 #[cfg(test)]
 mod tests;
 

@@ -2,7 +2,6 @@
 ghost use Rattle.std.specs.Prelude.{IsTrue};
 ghost use Rattle.gr_view.specs.Room.{HasRoom};
 
-use crate::places::includes;
 use crate::{Coordinator, Mode, Opening, Verdict};
 use gr_base::PlaceSet;
 
@@ -50,12 +49,12 @@ fn barrier(coordinator: &mut Coordinator, crashed: PlaceSet) -> Option<Verdict> 
         return None;
     }
     if let Mode::Failed = coordinator.mode {
-        if includes(coordinator.live, crashed) {
+        if coordinator.live.includes(crashed) {
             return Some(coordinator.barrier(crashed));
         }
         return None;
     }
-    if includes(coordinator.parties(), crashed) {
+    if coordinator.parties().includes(crashed) {
         return Some(coordinator.barrier(crashed));
     }
     None
@@ -83,7 +82,7 @@ fn discard(coordinator: &mut Coordinator, crashed: PlaceSet) -> Option<u64> {
     if !has_room(coordinator) {
         return Some(0);
     }
-    if includes(coordinator.parties(), crashed) {
+    if coordinator.parties().includes(crashed) {
         return coordinator.discard(crashed);
     }
     Some(0)

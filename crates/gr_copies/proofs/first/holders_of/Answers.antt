@@ -19,7 +19,7 @@ returns-clause-holders c =
     let chosen : ℕ → Bool = λ p. has s p || has (further copies s (ring m all)) p in
     let member : (r : ℕ) → has c.next_places.result r ≡ chosen r = λ r.
     c.next_places.ensures.members r
-    ∙ ap (λ l. has s r || has (take n (ring m l)) r) c.without-candidates.ensures.left
+    ∙ ap (λ l. has s r || has (take n (ring m l)) r) c.difference-candidates.ensures.difference
     ∙ ap (λ l. has s r || has (take n (ring m (without l s))) r) c.all.ensures
     ∙ ap (λ l. has s r || has (take n l) r) (ring-without m all s)
     ∙ ap (λ k. has s r || has (take k (without (ring m all) s)) r) count in

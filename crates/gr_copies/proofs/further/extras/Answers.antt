@@ -22,8 +22,8 @@ returns c =
     let chosen = extras live c.args.need m holders in
     let member : (r : ℕ) → has c.next_places.result r ≡ has chosen r = λ r.
     c.next_places.ensures.members r
-    ∙ ap (λ l. has l r || has (take n (ring m c.without-candidates.result)) r) c.none.ensures
-    ∙ ap (λ l. has (take n (ring m l)) r) c.without-candidates.ensures.left
+    ∙ ap (λ l. has l r || has (take n (ring m c.difference-candidates.result)) r) c.none.ensures
+    ∙ ap (λ l. has (take n (ring m l)) r) c.difference-candidates.ensures.difference
     ∙ ap (λ l. has (take n l) r) (ring-without m live holders)
     ∙ ap (λ k. has (take k (without (ring m live) holders)) r) count in
     sym (members-below c.next_places.result 64 c.next_places.ensures.places.rise c.next_places.ensures.places.below)

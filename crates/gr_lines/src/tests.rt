@@ -1,0 +1,3 @@
+// Texts, and ranks of small graphs.
+mod lines;
+mod ranks;
