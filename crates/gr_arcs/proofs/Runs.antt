@@ -1,5 +1,5 @@
 -- In a list sorted by a key, the elements of one key stand together.
-use Rattle.std.proofs.Common.{◌≡◌, ◌∙◌, ◌<◌, ◌≤◌, ◌+◌, ◌-◌, ℕ, zero, suc, Bool, true, false, cond, eqb, ltb, List, [], ◌∷◌, length, take, drop, refl, sym, ap, arith, inl, inr}
+use Rattle.std.proofs.Common.{◌≡◌, ◌∙◌, ◌<◌, ◌≤◌, ◌+◌, ◌-◌, ℕ, suc, Bool, eqb, ltb, List, [], ◌∷◌, take, drop, refl, sym, ap, arith, inl, inr}
 use Rattle.std.specs.List.{All, filter, prefix_len}
 use Rattle.std.specs.List.Sorted.{IsNonDecreasingBy}
 use Rattle.std.proofs.lemmas.Bool.{cases_Bool, cases_eq, cond-true, cond-false, ltb-true, ltb-false, lt-ltb, le-ltb, eq-eqb, ne_eqb}
@@ -41,23 +41,31 @@ module _ {X : Type 0} (key : X → ℕ) (v : ℕ) where
         ∙ sym (none-above (x ∷ xs) (λ k d l. let q = r 0 k d (omega arith) l in omega arith))
   ]
 
-  -- those of the key come first among those that are not below
-  pub run-of-key : (xs : List X) → IsNonDecreasingBy key xs → let rest = drop (before v xs) xs in take (before (v + 1) rest) rest ≡ filter here xs
+  pub before-more : (xs : List X) → before v xs ≤ before (v + 1) xs
+  before-more [] = omega arith
+  before-more (x ∷ xs) = elim (cases_Bool (ltb (key x) v)) [
+    | inl on ↦
+        let lt = ltb-true (key x) v on in
+        omega (arith, before-yes v x xs lt, before-yes (v + 1) x xs (omega arith), before-more xs)
+    | inr off ↦ omega (arith, before-no v x xs (ltb-false (key x) v off))
+  ]
+
+  -- those of the key stand from the first that is not below to the first that is above
+  pub run-of-key : (xs : List X) → IsNonDecreasingBy key xs → take (before (v + 1) xs - before v xs) (drop (before v xs) xs) ≡ filter here xs
   run-of-key [] r = refl
   run-of-key (x ∷ xs) r = elim (cases_Bool (ltb (key x) v)) [
     | inl on ↦
         let lt = ltb-true (key x) v on in
-        ap (λ n. take (before (v + 1) (drop n (x ∷ xs))) (drop n (x ∷ xs))) (before-yes v x xs lt)
+        let less : suc (before (v + 1) xs) - suc (before v xs) ≡ before (v + 1) xs - before v xs = omega arith in
+        ap (λ n. take (n - before v (x ∷ xs)) (drop (before v (x ∷ xs)) (x ∷ xs))) (before-yes (v + 1) x xs (omega arith))
+        ∙ ap (λ n. take (suc (before (v + 1) xs) - n) (drop n (x ∷ xs))) (before-yes v x xs lt)
+        ∙ ap (λ n. take n (drop (before v xs) xs)) less
         ∙ run-of-key xs (sorted-tail x xs r)
         ∙ sym (cond-false (eqb (key x) v) (x ∷ filter here xs) (filter here xs) (ne_eqb (key x) v (λ q. omega arith)))
     | inr off ↦
         let le = ltb-false (key x) v off in
-        ap (λ n. take (before (v + 1) (drop n (x ∷ xs))) (drop n (x ∷ xs))) (before-no v x xs le)
+        let all : before (v + 1) (x ∷ xs) - 0 ≡ before (v + 1) (x ∷ xs) = omega arith in
+        ap (λ n. take (before (v + 1) (x ∷ xs) - n) (drop n (x ∷ xs))) (before-no v x xs le)
+        ∙ ap (λ n. take n (x ∷ xs)) all
         ∙ first-of-key (x ∷ xs) r (λ k d l. let q = r 0 k d (omega arith) l in omega arith)
   ]
-
-  -- and they are sorted too
-  pub sorted-drop : (n : ℕ) (xs : List X) → IsNonDecreasingBy key xs → IsNonDecreasingBy key (drop n xs)
-  sorted-drop zero xs r = r
-  sorted-drop (suc n) [] r = r
-  sorted-drop (suc n) (x ∷ xs) r = sorted-drop n xs (sorted-tail x xs r)

@@ -9,24 +9,26 @@ ghost use Rattle.gr_arcs.specs.Layers.{EdgesRise, number_of};
 
 use crate::copies::{copy_over, make_room};
 use crate::end::End;
-use crate::index::{edges_at, index_edges};
+use crate::index::{edges_at, fill_hints, index_edges};
 use gr_base::{NumberedEdge, OutOfMemory};
-use gr_numbered::merge;
+use gr_numbered::{SearchHints, merge};
 use std::alloc::Global;
 use std::marker::Model;
 
 /// The edges that stand at a place, by rising number, in two layers: `stable` counts now, and what is staged goes
 /// into `pending`, which counts from the next `install` on.
 ///
-/// The stable edges stand in two indices as well, by target and by source, so that those of a vertex are found by a
-/// binary search. Neither `install` nor `discard` takes memory: `stage_edge` has reserved in each layer, and in each
-/// index, the room for the other.
+/// The stable edges stand in two indices as well, by target and by source, and each index has hints that say where a
+/// search for a vertex begins, so that its edges are mostly found in constant time. Neither `install` nor `discard` takes
+/// memory: `stage_edge` has reserved in each layer, and in each index, the room for the other.
 #[derive(Drop)]
 pub struct Arcs {
     stable: Vec<NumberedEdge>,
     pending: Vec<NumberedEdge>,
     by_target: Vec<NumberedEdge>,
     by_source: Vec<NumberedEdge>,
+    target_hints: SearchHints,
+    source_hints: SearchHints,
     staged: bool,
 }
 
@@ -59,6 +61,8 @@ impl Arcs {
             pending: Vec::new(alloc),
             by_target: Vec::new(alloc),
             by_source: Vec::new(alloc),
+            target_hints: SearchHints::new(alloc),
+            source_hints: SearchHints::new(alloc),
             staged: false,
         }
     }
@@ -86,24 +90,35 @@ impl Arcs {
         holds_number(self.pending.as_slice(), number)
     }
 
-    /// The stable edges into a vertex, in rising number, found in time logarithmic in the number of edges.
+    /// The stable edges into a vertex, in rising number, mostly found in constant time. It takes at most time logarithmic
+    /// in the number of edges.
     pub fn edges_into(&self, v: u32) -> &[NumberedEdge]
         ensures edges { result.now ≡ filter (λ e. e.edge.dst == v) self.now.stable }
         ensures rise { EdgesRise self.now }
     {
-        edges_at(self.by_target.as_slice(), End::Target, v)
+        edges_at(
+            &self.target_hints,
+            self.by_target.as_slice(),
+            End::Target,
+            v,
+        )
     }
 
-    /// The stable edges out of a vertex, in rising number, found in time logarithmic in the number of edges.
+    /// The stable edges out of a vertex, in rising number, mostly found in constant time. It takes at most time
+    /// logarithmic in the number of edges.
     pub fn edges_out_of(&self, v: u32) -> &[NumberedEdge]
         ensures edges { result.now ≡ filter (λ e. e.edge.src == v) self.now.stable }
         ensures rise { EdgesRise self.now }
     {
-        edges_at(self.by_source.as_slice(), End::Source, v)
+        edges_at(
+            &self.source_hints,
+            self.by_source.as_slice(),
+            End::Source,
+            v,
+        )
     }
 
-    /// The `i`-th stable edge into a vertex, counted from 0 in rising number, in time logarithmic in the number
-    /// of edges.
+    /// The `i`-th stable edge into a vertex, counted from 0 in rising number, found as by `edges_into`.
     pub fn into_vertex(&self, v: u32, i: usize) -> Option<NumberedEdge>
         ensures edge { result ≡ slice_get (filter (λ e. e.edge.dst == v) self.now.stable) i }
         ensures next_fits { IfSome result (λ _. i + 1 < 2 ^ 64) }
@@ -112,8 +127,7 @@ impl Arcs {
         self.edges_into(v).get(i).copied()
     }
 
-    /// The `i`-th stable edge out of a vertex, counted from 0 in rising number, in time logarithmic in the number
-    /// of edges.
+    /// The `i`-th stable edge out of a vertex, counted from 0 in rising number, found as by `edges_out_of`.
     pub fn out_of(&self, v: u32, i: usize) -> Option<NumberedEdge>
         ensures edge { result ≡ slice_get (filter (λ e. e.edge.src == v) self.now.stable) i }
         ensures next_fits { IfSome result (λ _. i + 1 < 2 ^ 64) }
@@ -135,6 +149,8 @@ impl Arcs {
         make_room(&mut self.stable, count)?;
         make_room(&mut self.by_target, count)?;
         make_room(&mut self.by_source, count)?;
+        self.target_hints.reserve(count)?;
+        self.source_hints.reserve(count)?;
         put_edge(&mut self.pending, edge)?;
         self.staged = true;
         Ok(())
@@ -156,6 +172,8 @@ impl Arcs {
         make_room(&mut self.stable, count)?;
         make_room(&mut self.by_target, count)?;
         make_room(&mut self.by_source, count)?;
+        self.target_hints.reserve(count)?;
+        self.source_hints.reserve(count)?;
         make_room(&mut self.pending, count)?;
         copy_over(&mut self.pending, all.as_slice());
         self.staged = true;
@@ -171,6 +189,16 @@ impl Arcs {
             copy_over(&mut self.stable, self.pending.as_slice());
             index_edges(&mut self.by_target, End::Target, self.pending.as_slice());
             index_edges(&mut self.by_source, End::Source, self.pending.as_slice());
+            fill_hints(
+                &mut self.target_hints,
+                End::Target,
+                self.by_target.as_slice(),
+            );
+            fill_hints(
+                &mut self.source_hints,
+                End::Source,
+                self.by_source.as_slice(),
+            );
             self.staged = false;
         }
     }

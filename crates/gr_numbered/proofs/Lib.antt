@@ -1,2 +1,3 @@
+pub mod Between
 mod LastOfEach
 mod MergeSteps

@@ -8,6 +8,7 @@ ghost use Rattle.gr_rows.specs.Positions.{positions_from};
 ghost use Rattle.gr_rows.specs.Layers.{vertex_of, copy_with_value, copy_with_mark};
 
 use gr_base::{OutOfMemory, count_below};
+use gr_numbered::SearchHints;
 use gr_program::{Datum, VertexCopy};
 use std::alloc::Global;
 use std::marker::Model;
@@ -17,6 +18,8 @@ pub const MOST_COPIES: usize = u32::MAX as usize;
 
 /// Copies by rising vertex. Their vertices stand beside them in a list of their own, so that a search reads numbers of
 /// 4 bytes and no copies. A third list has the positions of the due copies, so that they are found without the others.
+/// Hints say where a search among the vertices begins, so that mostly it takes constant time. A copy put in leaves them
+/// stale, and then a search takes logarithmic time.
 ///
 /// Contracts see the copies, and for how many there is room.
 #[derive(Drop)]
@@ -24,6 +27,7 @@ pub struct Layer<V: Datum> {
     copies: Vec<VertexCopy<V>>,
     vertices: Vec<u32>,
     due: Vec<u32>,
+    hints: SearchHints,
 }
 
 impl<V: Datum> Model for Layer<V> {
@@ -59,6 +63,7 @@ impl<V: Datum> Layer<V> {
             copies: Vec::new(alloc),
             vertices: Vec::new(alloc),
             due: Vec::new(alloc),
+            hints: SearchHints::new(alloc),
         }
     }
 
@@ -119,6 +124,7 @@ impl<V: Datum> Layer<V> {
         self.copies.reserve(more)?;
         self.vertices.reserve(more)?;
         self.due.reserve(count.saturating_sub(self.due.len()))?;
+        self.hints.reserve(count)?;
         Ok(())
     }
 
@@ -128,7 +134,7 @@ impl<V: Datum> Layer<V> {
         ensures missing { IfErr result (λ at. GoesAt v at self.now.copies) }
         ensures rises { RisesBy vertex_of self.now.copies }
     {
-        let at = count_below(self.vertices.as_slice(), v);
+        let at = self.hints.count_below(self.vertices.as_slice(), v);
         if at < self.vertices.len() && self.vertices[at] == v {
             Ok(at)
         } else {
@@ -278,6 +284,7 @@ impl<V: Datum> Layer<V> {
         push_vertices(&mut self.vertices, copies);
         self.due.clear();
         push_due(&mut self.due, copies, 0);
+        self.hints.fill(self.vertices.as_slice());
     }
 
     /// Makes the copies equal to those of another layer, for which there is room. It takes linear time and no memory.
@@ -293,6 +300,14 @@ impl<V: Datum> Layer<V> {
         copy_over(&mut self.copies, other.copies.as_slice());
         copy_over(&mut self.due, other.due.as_slice());
         copy_over(&mut self.vertices, other.vertices.as_slice());
+        self.hints.fill(self.vertices.as_slice());
+    }
+
+    /// Makes the hints those of the vertices, in linear time. It takes no memory.
+    pub fn renew_hints(&mut self)
+        ensures { self.new ≡ self.old }
+    {
+        self.hints.fill(self.vertices.as_slice());
     }
 
     /// The positions of the due copies, borrowed.

@@ -79,7 +79,8 @@ impl<V: Datum> Rows<V> {
         self.pending.count()
     }
 
-    /// The stable copy of a vertex, found in time logarithmic in the number of copies.
+    /// The stable copy of a vertex, mostly found in constant time. It takes at most time logarithmic in the number of
+    /// copies.
     pub fn get(&self, v: u32) -> Option<VertexCopy<V>>
         ensures copy { result ≡ find (λ c. c.vertex == v) self.now.stable }
         ensures rise { CopiesRise self.now }
@@ -87,7 +88,8 @@ impl<V: Datum> Rows<V> {
         self.stable.get(v)
     }
 
-    /// The pending copy of a vertex, found in time logarithmic in the number of copies.
+    /// The pending copy of a vertex, mostly found in constant time. It takes at most time logarithmic in the number of
+    /// copies, as after copies were staged and not installed yet.
     pub fn pending(&self, v: u32) -> Option<VertexCopy<V>>
         ensures copy { result ≡ find (λ c. c.vertex == v) self.now.pending }
         ensures rise { CopiesRise self.now }
@@ -131,8 +133,7 @@ impl<V: Datum> Rows<V> {
         self.pending.due_at(i)
     }
 
-    /// Gives the pending copy of a vertex this value, in time logarithmic in the number of copies. It takes no
-    /// memory.
+    /// Gives the pending copy of a vertex this value, found as by `pending`. It takes no memory.
     pub fn stage_value(&mut self, v: u32, value: V)
         requires known { IsSome (find (λ c. c.vertex == v) self.old.pending) }
         ensures { self.new ≡ record self.old { pending = map (copy_with_value v value) self.old.pending } }
@@ -198,6 +199,9 @@ impl<V: Datum> Rows<V> {
     pub fn install(&mut self)
         ensures { self.new ≡ record self.old { stable = self.old.pending } }
     {
+        if self.changes.anywhere() {
+            self.pending.renew_hints();
+        }
         bring(&mut self.stable, &self.pending, &mut self.changes);
     }
 

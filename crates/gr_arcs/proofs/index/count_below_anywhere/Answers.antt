@@ -3,7 +3,7 @@ use Rattle.std.proofs.lemmas.List.Sorted.{IsPartitionPoint-from_clause, IsPartit
 use Rattle.gr_base.proofs.Rising.{prefix-at_point}
 use Rattle.gr_base.specs.declared.records.NumberedEdge.{NumberedEdge}
 use Rattle.gr_arcs.specs.End.{vertex_at}
-use Rattle.gr_arcs.proofs.index.count_below.Goals as goal
+use Rattle.gr_arcs.proofs.index.count_below_anywhere.Goals as goal
 
 pub returns-clause-count : goal.returns-clause-count
 returns-clause-count c =
