@@ -18,7 +18,7 @@ use std::alloc::Global;
 /// The parts of sums that a place sends to the place `to` before new values are computed: one for each vertex that is
 /// due, has more than `theta` edges into it, is mastered by `to` and has a stable edge into it here.
 ///
-/// It goes through the due copies only. For each due high vertex that `to` masters it costs a binary search among the
+/// It goes through the due copies only. For each due high vertex that `to` masters it costs a search among the
 /// edges, and if that finds one, what the sum costs. The one error is that memory ran out.
 pub fn partials<P: VertexProgram>(
     alloc: Global,
@@ -29,9 +29,11 @@ pub fn partials<P: VertexProgram>(
     to: u8,
 ) -> Result<Items<Part<P::Acc>>, OutOfMemory>
     requires sources { SourcesReady (P.program_of program.now) rows.now.stable arcs.now.stable }
-    ensures body { IfOk result (λ parts. parts ≡ gather_body (P.program_of program.now) theta to rows.now.stable arcs.now.stable) }
+    ensures body { IfOk result (λ parts. parts
+        ≡ gather_body (P.program_of program.now) theta to rows.now.stable arcs.now.stable) }
     ensures rise { IfOk result (λ parts. RisesBy (λ x. x.vertex) parts) }
-    ensures high { IfOk result (λ parts. All (λ x. IsSomeAnd (row rows.now.stable x.vertex) (λ c. IsTrue (is_due_high theta c))) parts) }
+    ensures high { IfOk result (λ parts.
+        All (λ x. IsSomeAnd (row rows.now.stable x.vertex) (λ c. IsTrue (is_due_high theta c))) parts) }
     ensures kept { IfOk result (λ parts. All (λ x. IsTrue ((P.program_of program.now).is_acc x.acc)) parts) }
 {
     let mut parts = Items::new(alloc);

@@ -1,6 +1,8 @@
+pub mod Bringers
 pub mod Called
 pub mod Known
 pub mod Others
+pub mod Parties
 pub mod Passed
 pub mod Rounds
 pub mod Selecting

@@ -14,12 +14,12 @@ use Rattle.gr_batch.specs.Bodies.{is_of}
 use Rattle.gr_rules.specs.Inbox.{batch_from, bodies}
 use Rattle.gr_round.proofs.Passed.{passed-on, passed-off, passed-none, passed-all, left-on, left-off, left-none, left-all}
 
-All-left : {X : Type 0} (P : X → Type 0) (xs ys : List X) → All P (xs ++ ys) → All P xs
+pub All-left : {X : Type 0} (P : X → Type 0) (xs ys : List X) → All P (xs ++ ys) → All P xs
 All-left P [] ys a k d l = absurd (omega arith)
 All-left P (x ∷ xs) ys a zero d l = a 0 d (omega arith)
 All-left P (x ∷ xs) ys a (suc k) d l = All-left P xs ys (λ j b m. a (suc j) b (omega arith)) k d (omega arith)
 
-All-right : {X : Type 0} (P : X → Type 0) (xs ys : List X) → All P (xs ++ ys) → All P ys
+pub All-right : {X : Type 0} (P : X → Type 0) (xs ys : List X) → All P (xs ++ ys) → All P ys
 All-right P [] ys a = a
 All-right P (x ∷ xs) ys a = All-right P xs ys (λ j b m. a (suc j) b (omega arith))
 
@@ -27,7 +27,7 @@ module _ {V A : Type 0} (inbox : List (Batch V A)) (e : ℕ) (s : Stage) where
   abbrev of_one : ℕ → List (Body V A)
   of_one p = map (λ b. b.body) (batch_from inbox e s p)
 
-  bodies-nil : bodies inbox e s [] ≡ []
+  pub bodies-nil : bodies inbox e s [] ≡ []
   unfolding bodies
   bodies-nil = refl
 
@@ -38,7 +38,7 @@ module _ {V A : Type 0} (inbox : List (Batch V A)) (e : ℕ) (s : Stage) where
   bodies-one : (p : ℕ) → bodies inbox e s (p ∷ []) ≡ of_one p
   bodies-one p = bodies-cons p [] ∙ ap (λ l. of_one p ++ l) bodies-nil ∙ append-nil (of_one p)
 
-  bodies-append : (xs ys : List ℕ) → bodies inbox e s (xs ++ ys) ≡ bodies inbox e s xs ++ bodies inbox e s ys
+  pub bodies-append : (xs ys : List ℕ) → bodies inbox e s (xs ++ ys) ≡ bodies inbox e s xs ++ bodies inbox e s ys
   unfolding bodies
   bodies-append xs ys = flat_map-append of_one xs ys
 
@@ -122,3 +122,8 @@ module _ {V A : Type 0} (inbox : List (Batch V A)) (e : ℕ) (s : Stage) where
         at : (o : Option (Batch V A)) → find (is_of p e s) inbox ≡ o → R (flat_map f (bodies inbox e s (p ∷ [])))
         at None is = subst R (sym (items-none p is)) none
         at (Some b) is = subst R (sym (items-some p b is)) (some b.body (subst (All Q) (bodies-some p b is) a 0 b.body (omega arith)))
+
+    -- what fits the bodies of all senders fits the items of one
+    pub part-fits : (Q : Body V A → Type 0) (R : List X → Type 0) → R [] → ((b : Body V A) → Q b → R (f b)) → (senders : List ℕ) (p : ℕ) → All Q (bodies inbox e s senders) → has senders p ≡ true
+        → (part : List X) → part ≡ flat_map f (bodies inbox e s (p ∷ [])) → R part
+    part-fits Q R none some senders p a here part is = subst R (sym is) (items-fit Q R none some p (fits-one Q senders p a here))

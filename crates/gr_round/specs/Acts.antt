@@ -13,12 +13,17 @@ use Rattle.gr_round.specs.declared.act.Act.{Act}
 use Rattle.gr_round.specs.declared.act.Act.TheVariants as act
 use Rattle.gr_round.specs.declared.view.RoundView.{RoundView}
 use Rattle.gr_round.specs.Line.{RoundLine}
+use Rattle.gr_round.specs.Todo.{next_at}
 
 -- the line once a stage is computed, or the place has reported
 abbrev pub line_after : List ℕ → RoundLine → Todo → RoundLine
 line_after others l Todo.Compute = record l { exchange = computed (unsent others []) l.exchange }
 line_after others l Todo.Report = record l { reported = true }
 line_after others l _ = l
+
+-- the line once the place p has done what comes next
+abbrev pub next_line : {V A : Type 0} → ℕ → RoundView → List (Batch V A) → RoundLine → RoundLine
+next_line p w inbox l = line_after (without_place w.parties p) l (next_at p w inbox l)
 
 module _ {V A : Type 0} (P : Program V A) (p : ℕ) (w : RoundView) (inbox : List (Batch V A)) (arcs : List NumberedEdge) (l : RoundLine) (layers : CopyLayers V) where
   -- the pending copies, with what a stage stages that is computed
@@ -43,3 +48,10 @@ module _ {V A : Type 0} (P : Program V A) (p : ℕ) (w : RoundView) (inbox : Lis
   answer_to Todo.Report = act.Ready (due_count p layers.pending)
   answer_to (Todo.Wait s q) = act.Waiting s q
   answer_to _ = act.Rest
+
+  -- the same for what comes next
+  abbrev pub next_pending : List (VertexCopy V)
+  next_pending = pending_after (next_at p w inbox l)
+
+  abbrev pub next_answer : Act V A
+  next_answer = answer_to (next_at p w inbox l)

@@ -2,4 +2,5 @@ pub mod Acts
 pub mod Kept
 pub mod Line
 pub mod Needs
+pub mod Party
 pub mod Todo

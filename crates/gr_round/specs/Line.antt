@@ -1,5 +1,5 @@
 -- What contracts see of how far a place is in a round, or in a rebuild.
-use Rattle.std.specs.Prelude.{Bool, true, false, not, ◌&&◌, ◌||◌}
+use Rattle.std.specs.Prelude.{ℕ, List, Bool, true, false, not, ◌&&◌, ◌||◌}
 use Rattle.gr_batch.specs.declared.stage.Stage.{Stage}
 use Rattle.gr_batch.specs.declared.stage.Stage.TheVariants as stage
 use Rattle.gr_batch.specs.Stages.{is_end}
@@ -9,6 +9,10 @@ use Rattle.gr_rules.specs.Exchange.{Exchange, begun}
 pub record RoundLine : Type 0 where
   pub exchange : Exchange
   pub reported : Bool
+
+-- a line by its parts
+abbrev pub line_with : Stage → Bool → List ℕ → Bool → RoundLine
+line_with s computed sent reported = record { exchange = record { stage = s; computed = computed; sent = sent }; reported = reported }
 
 -- the start of an epoch, before a stage
 abbrev pub line_before : Stage → RoundLine

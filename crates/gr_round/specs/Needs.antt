@@ -1,17 +1,21 @@
 -- What the work of a place in a round needs of its copies, its edges and what it was sent.
-use Rattle.std.specs.Prelude.{◌≡◌, ◌==◌, ◌&&◌, ℕ, Bool, true, List, Option, Some, None, IsTrue, IsSome, IfSome}
+use Rattle.std.specs.Prelude.{◌≡◌, ◌==◌, ◌&&◌, ℕ, Bool, true, List, Option, Some, None, IsTrue, IsSome, IfSome, map}
 use Rattle.std.specs.List.{All}
 use Rattle.gr_base.specs.Rising.{RisesBy}
 use Rattle.gr_base.specs.declared.records.NumberedEdge.{NumberedEdge}
 use Rattle.gr_program.specs.declared.copy.VertexCopy.{VertexCopy}
 use Rattle.gr_program.specs.Program.{Program}
+use Rattle.gr_rows.specs.Layers.{CopyLayers, vertex_of}
 use Rattle.gr_batch.specs.declared.batch.Batch.{Batch}
 use Rattle.gr_batch.specs.declared.body.Body.{Body}
 use Rattle.gr_batch.specs.declared.stage.Stage.TheVariants as stage
 use Rattle.gr_batch.specs.Bodies.{parts_of, values_of, signals_of, calls_of}
 use Rattle.gr_rules.specs.Rows.{row}
 use Rattle.gr_rules.specs.Inbox.{bodies}
-use Rattle.gr_rules.specs.Round.{new_value}
+use Rattle.gr_rules.specs.Round.{whole_sum, new_value}
+use Rattle.gr_low.specs.Sources.{SourcesReady}
+use Rattle.gr_round.specs.declared.party.Party.{Party}
+use Rattle.gr_round.specs.Party.{brought_to}
 
 -- every value that is kept is one of the program
 abbrev pub ValuesFit : {V A : Type 0} → Program V A → List (VertexCopy V) → Type 0
@@ -55,3 +59,29 @@ module _ {V A : Type 0} (inbox : List (Batch V A)) (e : ℕ) (others : List ℕ)
 
   abbrev pub CallsRise : Type 0
   CallsRise = All (λ b. RisesBy (λ v. v) (calls_of b)) (bodies inbox e stage.Call others)
+
+-- a sum has the same parts from these senders as from all others
+abbrev pub BringTheSame : {V A : Type 0} → Program V A → List (Batch V A) → ℕ → List ℕ → List ℕ → Type 0
+BringTheSame P inbox e others senders = (rows : List (VertexCopy _)) (arcs : List NumberedEdge) (v : ℕ)
+    → whole_sum P rows arcs (bodies inbox e stage.Gather senders) v ≡ whole_sum P rows arcs (bodies inbox e stage.Gather others) v
+
+-- a place in a round, with its inbox, its copies in both layers and its edges
+module _ {V A : Type 0} (P : Program V A) (p : Party) (inbox : List (Batch V A)) (rows : CopyLayers V) (arcs : List NumberedEdge) where
+  -- what the new values that it knows stand on
+  pub record ValuesReady : Type 0 where
+    pub sources : SourcesReady P rows.stable arcs
+    pub values : ValuesFit P rows.stable
+    pub gathers : GathersFit inbox p.epoch p.others P
+    pub updates : UpdatesFit inbox p.epoch p.others rows.stable
+    pub staged : IsTrue p.has_new_values → NewValuesAreStaged P p.place rows.stable arcs (brought_to p inbox stage.Gather) rows.pending
+
+  -- what all its work stands on
+  pub record RoundReady : Type 0 where
+    pub news : ValuesReady
+    pub signals : SignalsRise inbox p.epoch p.others
+    pub calls : CallsRise inbox p.epoch p.others
+    pub pending : map vertex_of rows.pending ≡ map vertex_of rows.stable
+
+  -- if its new values are staged, that of the vertex of a copy is
+  abbrev pub StagesNew : VertexCopy V → Type 0
+  StagesNew c = IsTrue p.has_new_values → IfSome (row rows.pending c.vertex) (HasNewValue P rows.stable arcs (brought_to p inbox stage.Gather) c)

@@ -1,5 +1,5 @@
 -- What a place does next in a round or in a rebuild, as its code names it.
-use Rattle.std.specs.Prelude.{◌≡◌, ℕ, Bool, true, false, not, IsTrue, IsSome, List, if◌then◌else◌}
+use Rattle.std.specs.Prelude.{◌≡◌, ◌↔◌, ℕ, Bool, true, false, not, IsTrue, IsSome, List, if◌then◌else◌}
 use Rattle.gr_base.specs.Places.{without_place}
 use Rattle.gr_batch.specs.declared.batch.Batch.{Batch}
 use Rattle.gr_batch.specs.Stages.{is_end}
@@ -30,6 +30,10 @@ AwaitsSending others x = IsTrue x.computed → is_end x.stage ≡ false → IsSo
 -- what the place p does next, by the view, its inbox and its line
 abbrev pub next_at : {V A : Type 0} → ℕ → RoundView → List (Batch V A) → RoundLine → Todo
 next_at p w inbox l = todo_in_round inbox w.epoch (without_place w.parties p) l.exchange l.reported
+
+-- where it has a party left to send to, it rests exactly once it has reported
+abbrev pub RestsOnceReported : {V A : Type 0} → ℕ → RoundView → List (Batch V A) → RoundLine → Type 0
+RestsOnceReported p w inbox l = AwaitsSending (without_place w.parties p) l.exchange → (next_at p w inbox l ≡ Todo.Rest) ↔ IsTrue l.reported
 
 -- in a rebuild, at a place that has adopted its epoch: like in a round, but it appends to its log before it reports
 unfoldable pub todo_in_rebuild : {V A : Type 0} → List (Batch V A) → ℕ → List ℕ → Exchange → Bool → Bool → Todo

@@ -1,26 +1,20 @@
-ghost use Rattle.std.specs.Prelude.{◌≡◌, ◌<◌, ◌↔◌, map, IsTrue, IsOk, IfOk, OnOk, OnErr};
-ghost use Rattle.gr_base.specs.Places.{without_place};
+ghost use Rattle.std.specs.Prelude.{◌≡◌, map, IsTrue, IsOk, IfOk, OnOk, OnErr};
 ghost use Rattle.gr_rows.specs.Layers.{vertex_of};
-ghost use Rattle.gr_rules.specs.Todo.{Todo};
-ghost use Rattle.gr_low.specs.Sources.{SourcesReady};
-ghost use Rattle.gr_round.specs.Todo.{next_at, is_told, AwaitsSending};
-ghost use Rattle.gr_rules.specs.Inbox.{bodies};
-ghost use Rattle.gr_round.specs.Kept.{takes_targets, targets_at};
-ghost use Rattle.gr_round.specs.Line.{has_new_values};
-ghost use Rattle.gr_round.specs.Needs.{ValuesFit, GathersFit, UpdatesFit, SignalsRise, CallsRise, NewValuesAreStaged};
-ghost use Rattle.gr_round.specs.Acts.{line_after, pending_after, answer_to};
+ghost use Rattle.gr_round.specs.Acts.{next_answer, next_line, next_pending};
+ghost use Rattle.gr_round.specs.Kept.{takes_targets, TargetsGiven};
+ghost use Rattle.gr_round.specs.Needs.{RoundReady};
+ghost use Rattle.gr_round.specs.Party.{party_at};
+ghost use Rattle.gr_round.specs.Todo.{next_at, is_told, RestsOnceReported};
 
 use crate::body::body_to;
 use crate::due::due_count;
 use crate::line::{PlaceRound, others_of};
+use crate::party::{Given, Party};
 use crate::staging::stage_rows;
 use crate::step::Step;
-use crate::values::Party;
 use crate::view::RoundView;
-use gr_arcs::Arcs;
 use gr_base::OutOfMemory;
 use gr_batch::{Batch, Stage};
-use gr_flight::Inbox;
 use gr_program::{Datum, VertexProgram};
 use gr_rows::Rows;
 use gr_signal::Targets;
@@ -64,27 +58,25 @@ impl PlaceRound {
         alloc: Global,
         me: u8,
         view: &RoundView,
-        program: &P,
         rows: &mut Rows<P::Value>,
-        arcs: &Arcs,
-        inbox: &Inbox<P::Value, P::Acc>,
+        given: &Given<P>,
         targets: &Targets,
     ) -> Result<Act<P::Value, P::Acc>, OutOfMemory>
-        requires sources { SourcesReady (P.program_of program.now) rows.old.stable arcs.now.stable }
-        requires values { ValuesFit (P.program_of program.now) rows.old.stable }
-        requires gathers { GathersFit inbox.now view.now.epoch (without_place view.now.parties me) (P.program_of program.now) }
-        requires updates { UpdatesFit inbox.now view.now.epoch (without_place view.now.parties me) rows.old.stable }
-        requires signals { SignalsRise inbox.now view.now.epoch (without_place view.now.parties me) }
-        requires calls { CallsRise inbox.now view.now.epoch (without_place view.now.parties me) }
-        requires pending { map vertex_of rows.old.pending ≡ map vertex_of rows.old.stable }
-        requires staged { IsTrue (has_new_values self.old.exchange) → NewValuesAreStaged (P.program_of program.now) me rows.old.stable arcs.now.stable (bodies inbox.now view.now.epoch Stage.Gather (without_place view.now.parties me)) rows.old.pending }
-        requires targets { IsTrue (takes_targets self.old.exchange.stage (next_at me view.now inbox.now self.old)) → targets.now ≡ targets_at (P.program_of program.now) me view.now.epoch (without_place view.now.parties me) inbox.now rows.old.stable arcs.now.stable }
-        ensures answer { IfOk result (λ act. act ≡ answer_to (P.program_of program.now) me view.now inbox.now arcs.now.stable self.old rows.old (next_at me view.now inbox.now self.old)) }
-        ensures line { OnOk result (self.new ≡ line_after (without_place view.now.parties me) self.old (next_at me view.now inbox.now self.old)) }
-        ensures rows { OnOk result (rows.new ≡ record rows.old { pending = pending_after (P.program_of program.now) me view.now inbox.now arcs.now.stable self.old rows.old (next_at me view.now inbox.now self.old) }) }
+        requires needs { RoundReady (P.program_of given.now.program.now) (party_at me view.now self.old)
+            given.now.inbox.now rows.old given.now.arcs.now.stable }
+        requires targets { TargetsGiven (P.program_of given.now.program.now) (party_at me view.now self.old)
+            given.now.inbox.now rows.old.stable given.now.arcs.now.stable
+            (takes_targets self.old.exchange.stage (next_at me view.now given.now.inbox.now self.old)) targets.now }
+        ensures answer { IfOk result (λ act. act ≡ next_answer (P.program_of given.now.program.now) me view.now
+            given.now.inbox.now given.now.arcs.now.stable self.old rows.old) }
+        ensures line { OnOk result (self.new ≡ next_line me view.now given.now.inbox.now self.old) }
+        ensures rows { OnOk result (rows.new ≡ record rows.old {
+          pending = next_pending (P.program_of given.now.program.now) me view.now
+              given.now.inbox.now given.now.arcs.now.stable self.old rows.old;
+        }) }
         ensures vertices { map vertex_of rows.new.pending ≡ map vertex_of rows.new.stable }
-        ensures rest { AwaitsSending (without_place view.now.parties me) self.old.exchange → (next_at me view.now inbox.now self.old ≡ Todo.Rest) ↔ IsTrue self.old.reported }
-        ensures told { IsTrue (is_told (next_at me view.now inbox.now self.old)) → IsOk result }
+        ensures rest { RestsOnceReported me view.now given.now.inbox.now self.old }
+        ensures told { IsTrue (is_told (next_at me view.now given.now.inbox.now self.old)) → IsOk result }
         ensures line_kept { OnErr result (self.new ≡ self.old) }
         ensures rows_kept { OnErr result (rows.new ≡ rows.old) }
     {
@@ -92,28 +84,18 @@ impl PlaceRound {
             place: me,
             epoch: view.epoch,
             others: others_of(view.parties, me),
+            stage: self.stage(),
             has_new_values: self.has_new_values(),
+            theta: view.theta,
         };
-        match self.next_step(me, view, inbox) {
+        match self.next_step(me, view, given.inbox) {
             Step::Compute => {
-                let stage = self.stage();
-                stage_rows(alloc, stage, &party, program, rows, arcs, inbox, targets)?;
+                stage_rows(alloc, &party, rows, given, targets)?;
                 self.note_computed(party.others);
-                Ok(Act::Computed(stage))
+                Ok(Act::Computed(party.stage))
             }
             Step::Send(to) => {
-                let body = body_to(
-                    alloc,
-                    self.stage(),
-                    view.theta,
-                    to,
-                    &party,
-                    program,
-                    rows,
-                    arcs,
-                    inbox,
-                    targets,
-                )?;
+                let body = body_to(alloc, to, &party, rows, given, targets)?;
                 Ok(Act::Sent(Batch {
                     serial: view.serial,
                     epoch: view.epoch,

@@ -1,56 +1,50 @@
-ghost use Rattle.std.specs.Prelude.{IsTrue, ◌≡◌, ◌<◌, IfOk};
+ghost use Rattle.std.specs.Prelude.{◌≡◌, ◌<◌, IfOk};
 ghost use Rattle.gr_rules.specs.AtPlace.{round_body};
-ghost use Rattle.gr_low.specs.Sources.{SourcesReady};
-ghost use Rattle.gr_rules.specs.Inbox.{bodies};
-ghost use Rattle.gr_round.specs.Kept.{is_of_targets, targets_at};
-ghost use Rattle.gr_round.specs.Needs.{ValuesFit, GathersFit, SignalsRise, NewValuesAreStaged};
+ghost use Rattle.gr_round.specs.Kept.{is_of_targets, TargetsGiven};
+ghost use Rattle.gr_round.specs.Needs.{ValuesReady, SignalsRise};
 
 use crate::next::{call_body, own_next};
-use crate::values::{Party, update_body};
-use gr_arcs::Arcs;
+use crate::party::{Given, Party};
+use crate::values::update_body;
 use gr_base::{Items, OutOfMemory};
 use gr_batch::{Body, Stage};
-use gr_flight::Inbox;
 use gr_high::partials;
 use gr_program::VertexProgram;
 use gr_rows::Rows;
 use gr_signal::Targets;
 use std::alloc::Global;
 
-/// The body of a stage to the place `to`, where vertices with more than `theta` edges into them are high.
+/// The body of the stage of a place to the place `to`.
 pub(crate) fn body_to<P: VertexProgram>(
     alloc: Global,
-    stage: Stage,
-    theta: u32,
     to: u8,
     party: &Party,
-    program: &P,
     rows: &Rows<P::Value>,
-    arcs: &Arcs,
-    inbox: &Inbox<P::Value, P::Acc>,
+    given: &Given<P>,
     targets: &Targets,
 ) -> Result<Body<P::Value, P::Acc>, OutOfMemory>
     requires place { to < 64 }
-    requires sources { SourcesReady (P.program_of program.now) rows.now.stable arcs.now.stable }
-    requires values { ValuesFit (P.program_of program.now) rows.now.stable }
-    requires gathers { GathersFit inbox.now party.now.epoch party.now.others (P.program_of program.now) }
-    requires staged { IsTrue party.now.has_new_values → NewValuesAreStaged (P.program_of program.now) party.now.place rows.now.stable arcs.now.stable (bodies inbox.now party.now.epoch Stage.Gather party.now.others) rows.now.pending }
-    requires signals { SignalsRise inbox.now party.now.epoch party.now.others }
-    requires targets { IsTrue (is_of_targets stage) → targets.now ≡ targets_at (P.program_of program.now) party.now.place party.now.epoch party.now.others inbox.now rows.now.stable arcs.now.stable }
-    ensures { IfOk result (λ body. body ≡ round_body (P.program_of program.now) party.now.place party.now.epoch party.now.others inbox.now rows.now.stable arcs.now.stable theta to stage) }
+    requires needs { ValuesReady (P.program_of given.now.program.now) party.now
+        given.now.inbox.now rows.now given.now.arcs.now.stable }
+    requires signals { SignalsRise given.now.inbox.now party.now.epoch party.now.others }
+    requires targets { TargetsGiven (P.program_of given.now.program.now) party.now
+        given.now.inbox.now rows.now.stable given.now.arcs.now.stable (is_of_targets party.now.stage) targets.now }
+    ensures { IfOk result (λ body. body ≡ round_body (P.program_of given.now.program.now)
+        party.now.place party.now.epoch party.now.others given.now.inbox.now
+        rows.now.stable given.now.arcs.now.stable party.now.theta to party.now.stage) }
 {
-    match stage {
+    match party.stage {
         Stage::Gather => {
-            let parts = partials(alloc, program, rows, arcs, theta, to)?;
+            let parts = partials(alloc, given.program, rows, given.arcs, party.theta, to)?;
             Ok(Body::Gather(parts))
         }
         Stage::Update => {
-            let news = update_body(alloc, to, party, program, rows, arcs, inbox)?;
+            let news = update_body(alloc, to, party, rows, given)?;
             Ok(Body::Update(news))
         }
         Stage::Signal => Ok(Body::Signal(targets.mastered_by(alloc, to)?)),
         Stage::Call => {
-            let next = own_next(alloc, party, targets, inbox)?;
+            let next = own_next(alloc, party, targets, given.inbox)?;
             let called = call_body(alloc, to, party, rows, next.as_slice())?;
             Ok(Body::Call(called))
         }

@@ -5,7 +5,7 @@ ghost use Rattle.gr_rules.specs.Exchange.{needed, unsent, passed, computed, sent
 ghost use Rattle.gr_rules.specs.Todo.{Todo, compute_or_wait, send_or_rest, is_act};
 ghost use Rattle.gr_round.specs.Kept.{is_of_targets, takes_targets};
 ghost use Rattle.gr_round.specs.Line.{line_before, first_line, has_new_values};
-ghost use Rattle.gr_round.specs.Todo.{todo_of, place_to, next_at, todo_in_rebuild, AwaitsSending};
+ghost use Rattle.gr_round.specs.Todo.{todo_of, place_to, next_at, todo_in_rebuild, RestsOnceReported};
 
 use crate::step::Step;
 use crate::view::RoundView;
@@ -30,13 +30,13 @@ pub struct PlaceRound {
 impl Model for PlaceRound {
     ghost use Rattle.std.specs.Prelude.{IsTrue};
     ghost use Rattle.gr_round.specs.Kept.{is_of_targets, takes_targets};
-    ghost use Rattle.gr_round.specs.Line.{RoundLine, is_line};
+    ghost use Rattle.gr_round.specs.Line.{RoundLine, line_with, is_line};
 
     ghost Value = { RoundLine };
 
-    ghost view = { λ r. record { exchange = record { stage = r.stage; computed = r.computed; sent = r.sent }; reported = r.reported } };
+    ghost view = { λ r. line_with r.stage r.computed r.sent r.reported };
 
-    ghost invariant = { λ r. IsTrue (is_line (record { exchange = record { stage = r.stage; computed = r.computed; sent = r.sent }; reported = r.reported })) };
+    ghost invariant = { λ r. IsTrue (is_line (line_with r.stage r.computed r.sent r.reported)) };
 }
 
 impl PlaceRound {
@@ -72,7 +72,8 @@ impl PlaceRound {
         requires computed { IsTrue self.old.exchange.computed }
         requires open { is_end self.old.exchange.stage ≡ false }
         requires left { IsSome (unsent (without_place parties me) self.old.exchange.sent) }
-        ensures { IfSome (unsent (without_place parties me) self.old.exchange.sent) (λ q. self.new ≡ record self.old { exchange = sent_to (without_place parties me) q self.old.exchange }) }
+        ensures { IfSome (unsent (without_place parties me) self.old.exchange.sent)
+            (λ q. self.new ≡ record self.old { exchange = sent_to (without_place parties me) q self.old.exchange }) }
     {
         let others = others_of(parties, me);
         if let Some(to) = unsent(others, self.sent) {
@@ -118,7 +119,8 @@ impl PlaceRound {
         inbox: &Inbox<V, A>,
         appended: bool,
     ) -> Step
-        ensures next { todo_of result ≡ todo_in_rebuild inbox.now epoch (without_place parties me) self.now.exchange appended self.now.reported }
+        ensures next { todo_of result
+            ≡ todo_in_rebuild inbox.now epoch (without_place parties me) self.now.exchange appended self.now.reported }
         ensures place { place_to result < 64 }
     {
         let others = others_of(parties, me);
@@ -147,7 +149,7 @@ impl PlaceRound {
     ) -> Step
         ensures next { todo_of result ≡ next_at me view.now inbox.now self.now }
         ensures place { place_to result < 64 }
-        ensures rest { AwaitsSending (without_place view.now.parties me) self.now.exchange → (next_at me view.now inbox.now self.now ≡ Todo.Rest) ↔ IsTrue self.now.reported }
+        ensures rest { RestsOnceReported me view.now inbox.now self.now }
     {
         let others = others_of(view.parties, me);
         if !self.computed {
@@ -206,7 +208,10 @@ impl PlaceRound {
 
 /// The line at a computed stage, which is passed where no party is left to send to.
 fn passed_line(left: Option<u8>, stage: Stage, sent: PlaceSet) -> PlaceRound
-    ensures { result ≡ record { exchange = passed left (record { stage = stage; computed = true; sent = sent }); reported = false } }
+    ensures { result ≡ record {
+      exchange = passed left (record { stage = stage; computed = true; sent = sent });
+      reported = false;
+    } }
 {
     match left {
         Some(_) => PlaceRound {

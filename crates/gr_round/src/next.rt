@@ -1,17 +1,16 @@
-ghost use Rattle.std.specs.Prelude.{IsTrue, ◌≡◌, ◌++◌, ◌<◌, ℕ, IfOk, flat_map};
+ghost use Rattle.std.specs.Prelude.{◌≡◌, ◌++◌, ◌<◌, ℕ, IfOk, flat_map};
 ghost use Rattle.gr_base.specs.Rising.{RisesBy, has};
 ghost use Rattle.gr_batch.specs.Bodies.{signals_of, calls_of};
-ghost use Rattle.gr_rules.specs.Inbox.{bodies};
 ghost use Rattle.gr_rules.specs.Round.{woke_by, call_body};
 ghost use Rattle.gr_rules.specs.AtPlace.{known_values};
-ghost use Rattle.gr_low.specs.Sources.{SourcesReady};
 ghost use Rattle.gr_signal.specs.Signals.{signals_to};
-ghost use Rattle.gr_round.specs.Kept.{targets_at};
-ghost use Rattle.gr_round.specs.Needs.{ValuesFit, GathersFit, UpdatesFit, SignalsRise, CallsRise, NewValuesAreStaged};
+ghost use Rattle.gr_round.specs.Kept.{targets_in};
+ghost use Rattle.gr_round.specs.Needs.{ValuesReady, SignalsRise, CallsRise};
+ghost use Rattle.gr_round.specs.Party.{brought_to};
 
 use crate::brought::{calls_from, signals_from, values_from};
-use crate::values::{Party, own_values};
-use gr_arcs::Arcs;
+use crate::party::{Given, Party};
+use crate::values::own_values;
 use gr_base::{Items, OutOfMemory};
 use gr_batch::Stage;
 use gr_flight::Inbox;
@@ -24,25 +23,23 @@ use std::alloc::Global;
 pub(crate) fn woken<P: VertexProgram>(
     alloc: Global,
     party: &Party,
-    program: &P,
     rows: &Rows<P::Value>,
-    arcs: &Arcs,
-    inbox: &Inbox<P::Value, P::Acc>,
+    given: &Given<P>,
 ) -> Result<Items<u32>, OutOfMemory>
-    requires sources { SourcesReady (P.program_of program.now) rows.now.stable arcs.now.stable }
-    requires values { ValuesFit (P.program_of program.now) rows.now.stable }
-    requires gathers { GathersFit inbox.now party.now.epoch party.now.others (P.program_of program.now) }
-    requires staged { IsTrue party.now.has_new_values → NewValuesAreStaged (P.program_of program.now) party.now.place rows.now.stable arcs.now.stable (bodies inbox.now party.now.epoch Stage.Gather party.now.others) rows.now.pending }
-    requires updates { UpdatesFit inbox.now party.now.epoch party.now.others rows.now.stable }
-    ensures members { IfOk result (λ woken. (v : ℕ) → has woken v ≡ woke_by (known_values (P.program_of program.now) party.now.place party.now.epoch party.now.others inbox.now rows.now.stable arcs.now.stable) v) }
+    requires needs { ValuesReady (P.program_of given.now.program.now) party.now
+        given.now.inbox.now rows.now given.now.arcs.now.stable }
+    ensures members { IfOk result (λ woken. (v : ℕ) → has woken v
+        ≡ woke_by (known_values (P.program_of given.now.program.now)
+        party.now.place party.now.epoch party.now.others given.now.inbox.now
+        rows.now.stable given.now.arcs.now.stable) v) }
     ensures rise { IfOk result (λ woken. RisesBy (λ v. v) woken) }
 {
-    let own = own_values(alloc, party, program, rows, arcs, inbox)?;
+    let own = own_values(alloc, party, rows, given)?;
     let mut woken = Items::new(alloc);
     take_woken(alloc, own.as_slice(), &mut woken)?;
     for p in 0..64u8 {
         if party.others.has(p) {
-            take_woken(alloc, values_from(inbox, p, party.epoch), &mut woken)?;
+            take_woken(alloc, values_from(given.inbox, p, party.epoch), &mut woken)?;
         }
     }
     Ok(woken)
@@ -52,20 +49,16 @@ pub(crate) fn woken<P: VertexProgram>(
 pub(crate) fn targets_at<P: VertexProgram>(
     alloc: Global,
     party: &Party,
-    program: &P,
     rows: &Rows<P::Value>,
-    arcs: &Arcs,
-    inbox: &Inbox<P::Value, P::Acc>,
+    given: &Given<P>,
 ) -> Result<Targets, OutOfMemory>
-    requires sources { SourcesReady (P.program_of program.now) rows.now.stable arcs.now.stable }
-    requires values { ValuesFit (P.program_of program.now) rows.now.stable }
-    requires gathers { GathersFit inbox.now party.now.epoch party.now.others (P.program_of program.now) }
-    requires staged { IsTrue party.now.has_new_values → NewValuesAreStaged (P.program_of program.now) party.now.place rows.now.stable arcs.now.stable (bodies inbox.now party.now.epoch Stage.Gather party.now.others) rows.now.pending }
-    requires updates { UpdatesFit inbox.now party.now.epoch party.now.others rows.now.stable }
-    ensures { IfOk result (λ targets. targets ≡ targets_at (P.program_of program.now) party.now.place party.now.epoch party.now.others inbox.now rows.now.stable arcs.now.stable) }
+    requires needs { ValuesReady (P.program_of given.now.program.now) party.now
+        given.now.inbox.now rows.now given.now.arcs.now.stable }
+    ensures { IfOk result (λ targets. targets ≡ targets_in (P.program_of given.now.program.now)
+        party.now given.now.inbox.now rows.now.stable given.now.arcs.now.stable) }
 {
-    let woken = woken(alloc, party, program, rows, arcs, inbox)?;
-    targets_from(alloc, rows, arcs, woken.as_slice())
+    let woken = woken(alloc, party, rows, given)?;
+    targets_from(alloc, rows, given.arcs, woken.as_slice())
 }
 
 /// The vertices due next that the place masters: those among the targets of its edges, and those that it was signalled.
@@ -76,7 +69,8 @@ pub(crate) fn own_next<V: Datum, A: Datum>(
     inbox: &Inbox<V, A>,
 ) -> Result<Items<u32>, OutOfMemory>
     requires signals { SignalsRise inbox.now party.now.epoch party.now.others }
-    ensures members { IfOk result (λ next. (v : ℕ) → has next v ≡ has (signals_to targets.now party.now.place ++ flat_map signals_of (bodies inbox.now party.now.epoch Stage.Signal party.now.others)) v) }
+    ensures members { IfOk result (λ next. (v : ℕ) → has next v ≡ has (signals_to targets.now party.now.place
+        ++ flat_map signals_of (brought_to party.now inbox.now Stage.Signal)) v) }
     ensures rise { IfOk result (λ next. RisesBy (λ v. v) next) }
 {
     let mut next = targets.mastered_by(alloc, party.place)?;
@@ -97,7 +91,9 @@ pub(crate) fn all_next<V: Datum, A: Datum>(
 ) -> Result<Items<u32>, OutOfMemory>
     requires signals { SignalsRise inbox.now party.now.epoch party.now.others }
     requires calls { CallsRise inbox.now party.now.epoch party.now.others }
-    ensures members { IfOk result (λ next. (v : ℕ) → has next v ≡ has ((signals_to targets.now party.now.place ++ flat_map signals_of (bodies inbox.now party.now.epoch Stage.Signal party.now.others)) ++ flat_map calls_of (bodies inbox.now party.now.epoch Stage.Call party.now.others)) v) }
+    ensures members { IfOk result (λ next. (v : ℕ) → has next v ≡ has ((signals_to targets.now party.now.place
+        ++ flat_map signals_of (brought_to party.now inbox.now Stage.Signal))
+        ++ flat_map calls_of (brought_to party.now inbox.now Stage.Call)) v) }
     ensures rise { IfOk result (λ next. RisesBy (λ v. v) next) }
 {
     let mut next = own_next(alloc, party, targets, inbox)?;

@@ -8,7 +8,7 @@ use std::alloc::Global;
 
 /// The targets of the stable edges out of woken vertices, rising, each once.
 ///
-/// It takes a binary search among the edges for each woken vertex, and sorts the targets of the edges out of it.
+/// It takes a search among the edges for each woken vertex, and sorts the targets of the edges out of it.
 ///
 /// # Errors
 ///

@@ -14,7 +14,7 @@ use std::alloc::Global;
 /// The vertices of `next` whose stable copy has the place `to` among its holders: the Call body to that place where
 /// the sender masters all of `next`. The vertices of `next` rise.
 ///
-/// It takes a binary search among the copies for each vertex of `next`.
+/// It takes a search among the copies for each vertex of `next`.
 ///
 /// # Errors
 ///
@@ -28,7 +28,9 @@ pub fn calls<V: Datum>(
     requires rise { RisesBy (λ v. v) next.now }
     requires place { to < 64 }
     ensures called { IfOk result (λ body. body ≡ called_at next.now rows.now.stable to) }
-    ensures call { IfOk result (λ body. (p : ℕ) → All (λ c. IsTrue (has next.now c.vertex) → c.master ≡ p) rows.now.stable → body ≡ call_body next.now rows.now.stable p to) }
+    ensures call { IfOk result (λ body. (p : ℕ)
+        → All (λ c. IsTrue (has next.now c.vertex) → c.master ≡ p) rows.now.stable
+        → body ≡ call_body next.now rows.now.stable p to) }
     ensures rise { IfOk result (λ body. RisesBy (λ v. v) body) }
 {
     let mut body = Items::new(alloc);
@@ -42,7 +44,7 @@ pub fn calls<V: Datum>(
 
 /// The vertices of `next` whose stable copy has this place as its master, in their order. The vertices of `next` rise.
 ///
-/// It takes a binary search among the copies for each vertex of `next`.
+/// It takes a search among the copies for each vertex of `next`.
 ///
 /// # Errors
 ///

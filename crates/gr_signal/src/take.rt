@@ -36,7 +36,7 @@ pub fn take_calls<V: Datum>(rows: &mut Rows<V>, due: &[u32])
 ///
 /// # Errors
 ///
-/// `OutOfMemory` where memory runs out.
+/// `OutOfMemory` if memory runs out.
 pub fn take_woken<V: Datum>(
     alloc: Global,
     body: &[NewValue<V>],
@@ -57,7 +57,7 @@ pub fn take_woken<V: Datum>(
 ///
 /// # Errors
 ///
-/// `OutOfMemory` where memory runs out.
+/// `OutOfMemory` if memory runs out.
 pub fn take_signals(alloc: Global, body: &[u32], next: &mut Items<u32>) -> Result<(), OutOfMemory>
     requires body_rises { RisesBy (λ v. v) body.now }
     requires next_rise { RisesBy (λ v. v) next.old }

@@ -72,7 +72,7 @@ impl Targets {
 
 /// The targets of the stable edges from woken vertices that have a stable copy.
 ///
-/// It takes a binary search among the place's edges for each woken vertex, and sorts the targets of the edges out of
+/// It takes a search among the place's edges for each woken vertex, and sorts the targets of the edges out of
 /// these vertices. For each target it takes a search among the copies.
 ///
 /// # Errors
@@ -84,8 +84,11 @@ pub fn targets_from<V: Datum>(
     arcs: &Arcs,
     woken: &[u32],
 ) -> Result<Targets, OutOfMemory>
-    ensures targets { IfOk result (λ targets. targets ≡ map target_of (filter (λ c. is_target woken.now arcs.now.stable c.vertex) rows.now.stable)) }
-    ensures signal { IfOk result (λ targets. (news : List (NewValue V)) → ((v : ℕ) → has woken.now v ≡ woke_by news v) → targets ≡ signalled news rows.now.stable arcs.now.stable) }
+    ensures targets { IfOk result (λ targets. targets
+        ≡ map target_of (filter (λ c. is_target woken.now arcs.now.stable c.vertex) rows.now.stable)) }
+    ensures signal { IfOk result (λ targets. (news : List (NewValue V))
+        → ((v : ℕ) → has woken.now v ≡ woke_by news v)
+        → targets ≡ signalled news rows.now.stable arcs.now.stable) }
 {
     let ends = targets_of(alloc, arcs, woken)?;
     with_masters(alloc, rows, ends.as_slice())
@@ -98,7 +101,8 @@ fn with_masters<V: Datum>(
     vertices: &[u32],
 ) -> Result<Targets, OutOfMemory>
     requires { RisesBy (λ v. v) vertices.now }
-    ensures { IfOk result (λ targets. targets ≡ map target_of (filter (λ c. has vertices.now c.vertex) rows.now.stable)) }
+    ensures { IfOk result (λ targets. targets
+        ≡ map target_of (filter (λ c. has vertices.now c.vertex) rows.now.stable)) }
 {
     let mut items = Items::new(alloc);
     for v in vertices {

@@ -13,27 +13,27 @@ use Rattle.gr_round.proofs.body.body_to.Goals as goal
 
 pub returns-in_ok-mastered_by-in-Signal : goal.returns-in_ok-mastered_by-in-Signal
 returns-in_ok-mastered_by-in-Signal g c =
-    let p = g.P.VertexProgram.program_of c.args.program.now in
+    let p = g.P.VertexProgram.program_of c.args.given.now.program.now in
     let rows = c.args.rows.now.stable in
-    let arcs = c.args.arcs.now.stable in
+    let arcs = c.args.given.now.arcs.now.stable in
     let party = c.args.party.now in
-    let known = known_values p party.place party.epoch party.others c.args.inbox.now rows arcs in
+    let known = known_values p party.place party.epoch party.others c.args.given.now.inbox.now rows arcs in
     let fit = c.requires.targets (ap is_of_targets c.in-Signal.is) in
     ap body.Signal (c.in_ok-mastered_by-in-Signal.ensures.body ∙ ap (λ ts. signals_to ts c.args.to) fit ∙ signals-signalled known rows arcs c.args.to)
-    ∙ ap (round_body p party.place party.epoch party.others c.args.inbox.now rows arcs c.args.theta c.args.to) (sym c.in-Signal.is)
+    ∙ ap (round_body p party.place party.epoch party.others c.args.given.now.inbox.now rows arcs party.theta c.args.to) (sym c.in-Signal.is)
 
 pub returns-in_ok-called-in-Call : goal.returns-in_ok-called-in-Call
 returns-in_ok-called-in-Call g c =
-    let p = g.P.VertexProgram.program_of c.args.program.now in
+    let p = g.P.VertexProgram.program_of c.args.given.now.program.now in
     let rows = c.args.rows.now.stable in
-    let arcs = c.args.arcs.now.stable in
+    let arcs = c.args.given.now.arcs.now.stable in
     let party = c.args.party.now in
-    let known = known_values p party.place party.epoch party.others c.args.inbox.now rows arcs in
+    let known = known_values p party.place party.epoch party.others c.args.given.now.inbox.now rows arcs in
     let fit = c.requires.targets (ap is_of_targets c.in-Call.is) in
     let own = ap (λ ts. signals_to ts party.place) fit ∙ signals-signalled known rows arcs party.place in
     ap body.Call (c.in_ok-called-in-Call.ensures
-    ∙ call-same c.as_slice.result.now (own_next p party.place party.epoch party.others c.args.inbox.now rows arcs)
+    ∙ call-same c.as_slice.result.now (own_next p party.place party.epoch party.others c.args.given.now.inbox.now rows arcs)
     (λ v. ap (λ l. has l v) c.as_slice.ensures ∙ c.in_ok-next-in-Call.ensures.members v
-    ∙ ap (λ l. has (l ++ flat_map signals_of (bodies c.args.inbox.now party.epoch stage.Signal party.others)) v) own)
+    ∙ ap (λ l. has (l ++ flat_map signals_of (bodies c.args.given.now.inbox.now party.epoch stage.Signal party.others)) v) own)
     rows party.place c.args.to)
-    ∙ ap (round_body p party.place party.epoch party.others c.args.inbox.now rows arcs c.args.theta c.args.to) (sym c.in-Call.is)
+    ∙ ap (round_body p party.place party.epoch party.others c.args.given.now.inbox.now rows arcs party.theta c.args.to) (sym c.in-Call.is)

@@ -1,62 +1,47 @@
-use Rattle.std.proofs.Common.{◌≡◌, ◌∙◌, ◌||◌, ◌++◌, flat_map, ℕ, eqb, sym, ap, subst, arith}
-use Rattle.gr_base.specs.Rising.{RisesBy, has}
+use Rattle.std.proofs.Common.{◌∙◌, ◌+◌, ◌++◌, flat_map, ℕ, List, eqb, sym, subst, arith}
+use Rattle.gr_base.specs.Rising.{RisesBy}
 use Rattle.gr_batch.specs.declared.stage.Stage.TheVariants as stage
 use Rattle.gr_batch.specs.Bodies.{signals_of, calls_of}
 use Rattle.gr_rules.specs.Inbox.{bodies}
 use Rattle.gr_signal.specs.Signals.{signals_to}
-use Rattle.gr_round.proofs.Known.{below-none, below-passed, below-skipped, below-all, passes_below}
-use Rattle.gr_round.proofs.Senders.{fits-one, items-fit}
+use Rattle.gr_round.proofs.Known.{TakenBelow, taken-none, taken-more, taken-same, taken-all}
+use Rattle.gr_round.proofs.Senders.{part-fits}
 use Rattle.gr_round.proofs.next.all_next.Goals as goal
 use Rattle.gr_round.proofs.next.all_next.Goals.{then-has+in_ok-take_signals, else-has}
 
 pub loop-p-init : goal.loop-p-init
 loop-p-init g c =
-    let others = c.args.party.now.others in
+    let inbox = c.args.inbox.now in
+    let party = c.args.party.now in
     let t = λ (v : ℕ). λ (x : ℕ). eqb x v in
-    let own = signals_to c.args.targets.now c.args.party.now.place ++ flat_map signals_of (bodies c.args.inbox.now c.args.party.now.epoch stage.Signal c.args.party.now.others) in
-    record {
-      places = λ more. absurd (omega arith);
-      members = λ v. below-none c.args.inbox.now c.args.party.now.epoch stage.Call calls_of (t v) others (has own v) (has c.in_ok-next.next v) (c.in_ok-next.ensures.members v);
-      rise = c.in_ok-next.ensures.rise;
-    }
+    let first = signals_to c.args.targets.now party.place ++ flat_map signals_of (bodies inbox party.epoch stage.Signal party.others) in
+    taken-none inbox party.epoch stage.Call calls_of t party.others first c.in_ok-next.next c.in_ok-next.ensures.members c.in_ok-next.ensures.rise
 
 pub take_signals-requires-clause-body_rises : goal.take_signals-requires-clause-body_rises
 take_signals-requires-clause-body_rises g c =
-    let fit = fits-one c.args.inbox.now c.args.party.now.epoch stage.Call (λ b. RisesBy (λ (v : ℕ). v) (calls_of b)) c.args.party.now.others c.loop-p.p c.requires.calls (sym c.has.ensures.test ∙ c.if-has.true) in
-    subst (RisesBy (λ (n : ℕ). n)) (sym c.calls_from.ensures) (items-fit c.args.inbox.now c.args.party.now.epoch stage.Call calls_of (λ b. RisesBy (λ (v : ℕ). v) (calls_of b)) (RisesBy (λ (n : ℕ). n)) (λ i j d h l. absurd (omega arith)) (λ b k. k) c.loop-p.p fit)
+    part-fits c.args.inbox.now c.args.party.now.epoch stage.Call calls_of (λ b. RisesBy (λ (v : ℕ). v) (calls_of b)) (RisesBy (λ (v : ℕ). v)) (λ i j d h l. absurd (omega arith)) (λ b k. k)
+    c.args.party.now.others c.loop-p.p c.requires.calls (sym c.has.ensures.test ∙ c.if-has.true) _ c.calls_from.ensures
 
 pub loop-p-preserved : goal.loop-p-preserved
 loop-p-preserved g c =
     let inbox = c.args.inbox.now in
-    let e = c.args.party.now.epoch in
-    let others = c.args.party.now.others in
-    let q = c.loop-p.p in
+    let party = c.args.party.now in
     let t = λ (v : ℕ). λ (x : ℕ). eqb x v in
-    let first = λ (v : ℕ). has (signals_to c.args.targets.now c.args.party.now.place ++ flat_map signals_of (bodies c.args.inbox.now c.args.party.now.epoch stage.Signal c.args.party.now.others)) v in
+    let first = signals_to c.args.targets.now party.place ++ flat_map signals_of (bodies inbox party.epoch stage.Signal party.others) in
+    let at = λ (l : List ℕ). TakenBelow inbox party.epoch stage.Call calls_of t party.others first l (c.loop-p.p + 1) in
     elim c.if-has.branch [
-      | then-has+in_ok-take_signals w ↦ record {
-        places = λ more. c.has.ensures.places;
-        members = λ v. ap (λ l. has l v) w.next-is
-            ∙ below-passed inbox e stage.Call calls_of (t v) others q (first v) (has c.loop-p.next v) c.has.ensures.places.rise (sym c.has.ensures.test ∙ w.if-has.true) (c.loop-p.invariant.members v)
-            (has w.take_signals.new.next v) (w.in_ok-take_signals.ensures.members v ∙ ap (λ l. has c.loop-p.next v || has l v) w.calls_from.ensures);
-        rise = subst (RisesBy (λ (n : ℕ). n)) (sym w.next-is) w.take_signals.ensures.rise;
-      }
-      | else-has w ↦ record {
-        places = λ more. c.has.ensures.places;
-        members = λ v. ap (λ l. has l v) w.next-is ∙ below-skipped inbox e stage.Call calls_of (t v) others q (first v) (has c.loop-p.next v) (sym c.has.ensures.test ∙ w.if-has.false) (c.loop-p.invariant.members v);
-        rise = subst (RisesBy (λ (n : ℕ). n)) (sym w.next-is) c.loop-p.invariant.rise;
-      }
+      | then-has+in_ok-take_signals w ↦ subst at (sym w.next-is) (taken-more inbox party.epoch stage.Call calls_of t party.others first c.loop-p.next w.take_signals.new.next _ c.loop-p.p c.loop-p.invariant c.has.ensures.places
+          (sym c.has.ensures.test ∙ w.if-has.true) w.calls_from.ensures w.in_ok-take_signals.ensures.members w.take_signals.ensures.rise)
+      | else-has w ↦ subst at (sym w.next-is) (taken-same inbox party.epoch stage.Call calls_of t party.others first c.loop-p.next c.loop-p.p c.loop-p.invariant c.has.ensures.places (sym c.has.ensures.test ∙ w.if-has.false))
     ]
 
 pub returns-clause-members : goal.returns-clause-members
-returns-clause-members g c = λ v.
+returns-clause-members g c =
     let inbox = c.args.inbox.now in
-    let e = c.args.party.now.epoch in
-    let others = c.args.party.now.others in
-    let t = λ (x : ℕ). eqb x v in
-    let end : c.loop-p.p ≡ 64 = omega arith in
-    below-all inbox e stage.Call calls_of t others (signals_to c.args.targets.now c.args.party.now.place ++ flat_map signals_of (bodies c.args.inbox.now c.args.party.now.epoch stage.Signal c.args.party.now.others)) (has c.loop-p.next v) (c.loop-p.invariant.places (omega arith))
-    (c.loop-p.invariant.members v ∙ ap (λ n. has (signals_to c.args.targets.now c.args.party.now.place ++ flat_map signals_of (bodies c.args.inbox.now c.args.party.now.epoch stage.Signal c.args.party.now.others)) v || passes_below inbox e stage.Call calls_of t others n) end)
+    let party = c.args.party.now in
+    let t = λ (v : ℕ). λ (x : ℕ). eqb x v in
+    let first = signals_to c.args.targets.now party.place ++ flat_map signals_of (bodies inbox party.epoch stage.Signal party.others) in
+    taken-all inbox party.epoch stage.Call calls_of t party.others first c.loop-p.next c.loop-p.p (omega arith) c.loop-p.invariant
 
 pub returns-clause-rise : goal.returns-clause-rise
 returns-clause-rise g c = c.loop-p.invariant.rise

@@ -18,24 +18,24 @@ use Rattle.gr_round.proofs.staging.stage_rows.Goals as goal
 
 pub take_updates-requires-clause-known : goal.take_updates-requires-clause-known
 take_updates-requires-clause-known g c =
-    let p = g.P.VertexProgram.program_of c.args.program.now in
+    let p = g.P.VertexProgram.program_of c.args.given.now.program.now in
     let rows = c.args.rows.now in
-    let arcs = c.args.arcs.now.stable in
-    let gathers = bodies c.args.inbox.now c.args.party.now.epoch stage.Gather c.args.party.now.others in
+    let arcs = c.args.given.now.arcs.now.stable in
+    let gathers = bodies c.args.given.now.inbox.now c.args.party.now.epoch stage.Gather c.args.party.now.others in
     subst (All (λ n. IsSome (row rows.pending n.vertex))) (sym (c.as_slice.ensures ∙ c.in_ok-news-in-Update.ensures.values ∙ own-are p rows.stable arcs gathers c.args.party.now.place))
-    (chosen-known (is_own c.args.party.now.place) (new_value p rows.stable arcs gathers) (λ x. refl) rows.stable rows.pending c.requires.pending)
+    (chosen-known (is_own c.args.party.now.place) (new_value p rows.stable arcs gathers) (λ x. refl) rows.stable rows.pending c.requires.needs.pending)
 
 pub returns-in_ok-next-in-End-clause-ok : goal.returns-in_ok-next-in-End-clause-ok
 returns-in_ok-next-in-End-clause-ok g c =
-    let p = g.P.VertexProgram.program_of c.args.program.now in
+    let p = g.P.VertexProgram.program_of c.args.given.now.program.now in
     let rows = c.args.rows.now in
-    let arcs = c.args.arcs.now.stable in
+    let arcs = c.args.given.now.arcs.now.stable in
     let party = c.args.party.now in
-    let inbox = c.args.inbox.now in
+    let inbox = c.args.given.now.inbox.now in
     let known = known_values p party.place party.epoch party.others inbox rows.stable arcs in
     let own = ap (λ ts. signals_to ts party.place) (c.requires.targets (ap is_end c.in-End.is)) ∙ signals-signalled known rows.stable arcs party.place in
     let all : List ℕ → List ℕ = λ own. (own ++ flat_map signals_of (bodies inbox party.epoch stage.Signal party.others)) ++ flat_map calls_of (bodies inbox party.epoch stage.Call party.others) in
     c.take_calls.ensures
     ∙ ap (λ l. record rows { pending = l }) (
-    due-same c.as_slice-in-End.result.now (all_next p party.place party.epoch party.others c.args.inbox.now rows.stable arcs) (λ v. ap (λ l. has l v) c.as_slice-in-End.ensures ∙ c.in_ok-next-in-End.ensures.members v ∙ ap (λ l. has (all l) v) own) rows.pending
-    ∙ ap (λ s. round_rows p party.place party.epoch party.others c.args.inbox.now rows.stable arcs s rows.pending) (sym c.in-End.is))
+    due-same c.as_slice-in-End.result.now (all_next p party.place party.epoch party.others c.args.given.now.inbox.now rows.stable arcs) (λ v. ap (λ l. has l v) c.as_slice-in-End.ensures ∙ c.in_ok-next-in-End.ensures.members v ∙ ap (λ l. has (all l) v) own) rows.pending
+    ∙ ap (λ s. round_rows p party.place party.epoch party.others c.args.given.now.inbox.now rows.stable arcs s rows.pending) (sym c.in-End.is))

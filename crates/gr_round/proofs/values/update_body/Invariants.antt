@@ -1,15 +1,15 @@
 use Rattle.std.proofs.Common.{◌≡◌, ◌≤◌, ◌-◌, length, take}
 use Rattle.gr_batch.specs.declared.stage.Stage.TheVariants as stage
-use Rattle.gr_rules.specs.Inbox.{bodies}
 use Rattle.gr_rules.specs.Round.{new_value}
 use Rattle.gr_high.proofs.DueCopies.{due_copies}
+use Rattle.gr_round.specs.Party.{brought_to}
 use Rattle.gr_round.proofs.Selecting.{chosen, is_updated}
 use Rattle.gr_round.proofs.values.update_body.Given as goal
 
 abbrev pub invariant-loop-copy : goal.invariant-loop-copy
 invariant-loop-copy g l = record {
   within : l.i ≤ length (due_copies l.rows.stable);
-  news : l.news ≡ chosen (is_updated l.to g.P.VertexProgram.FORGETFUL l.party.place) (new_value (g.P.VertexProgram.program_of l.program) l.rows.stable l.arcs.stable (bodies l.inbox l.party.epoch stage.Gather l.party.others)) (take l.i (due_copies l.rows.stable));
+  news : l.news ≡ chosen (is_updated l.to g.P.VertexProgram.FORGETFUL l.party.place) (new_value (g.P.VertexProgram.program_of l.given.program.now) l.rows.stable l.given.arcs.now.stable (brought_to l.party l.given.inbox.now stage.Gather)) (take l.i (due_copies l.rows.stable));
 }
 
 abbrev pub decreases-loop-copy : goal.decreases-loop-copy

@@ -10,9 +10,9 @@ use Rattle.gr_round.proofs.values.whole_sum.Given as goal
 
 abbrev pub invariant-loop-p : goal.invariant-loop-p
 invariant-loop-p g l =
-    let p = g.P.VertexProgram.program_of l.program in
+    let p = g.P.VertexProgram.program_of l.given.program.now in
     record {
-      places : 0 < l.p → IsPlaces l.party.others;
-      sum : l.sum ≡ joined p l.v (own_sum p l.rows.stable l.arcs.stable l.v) (bodies l.inbox l.party.epoch stage.Gather (filter (λ q. ltb q l.p) l.party.others));
+      places : 0 < l.p → IsPlaces l.senders;
+      sum : l.sum ≡ joined p l.v (own_sum p l.rows.stable l.given.arcs.now.stable l.v) (bodies l.given.inbox.now l.epoch stage.Gather (filter (λ q. ltb q l.p) l.senders));
       kept : IsTrue (p.is_acc l.sum);
     }
