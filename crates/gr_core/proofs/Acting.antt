@@ -291,7 +291,12 @@ pub needs-here : {V A : Type 0} (P : Program V A) (co : Coordinator) (p : ℕ) (
     → NeedsHold P p (record { epoch = co.epoch; round = co.round; parties = ps; serial = serial; theta = theta }) h
 needs-here P co p h serial theta ps is M = let N = M.needs in
     subst (λ qs. NeedsHold P p (record { epoch = co.epoch; round = co.round; parties = qs; serial = serial; theta = theta }) h) (sym is)
-    (record { sources = N.sources; values = N.values; gathers = N.gathers; updates = N.updates; signals = N.signals; calls = N.calls; pending = N.pending; staged = N.staged })
+    (record {
+      news = record { sources = N.sources; values = N.values; gathers = N.gathers; updates = N.updates; staged = N.staged };
+      signals = N.signals;
+      calls = N.calls;
+      pending = N.pending;
+    })
 
 module _ {V A : Type 0} (P : Program V A) (k : Cluster V A) (p : ℕ) (h : Host V A) (M : MayWork P k.coordinator p h) (at : host k p ≡ Some h) (ps : List ℕ) (parties_is : ps ≡ parties k.coordinator) where
   abbrev seen : List ℕ → RoundView

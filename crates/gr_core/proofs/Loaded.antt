@@ -22,7 +22,7 @@ use Rattle.gr_rules.specs.Grants.{records_after}
 use Rattle.gr_view.specs.Decisions.{first_coordinator}
 use Rattle.gr_cluster.specs.Tables.{Cluster}
 use Rattle.gr_cluster.specs.Load.{Setting, first_copy, first_rows, first_arcs, first_host, first_log, load}
-use Rattle.gr_agree.specs.FirstTruth.{IsGraph, IsSetting}
+use Rattle.gr_agree.specs.Accepted.{IsGraph, IsSetting}
 use Rattle.gr_lists.proofs.Maps.{Each-map, map-rises}
 use Rattle.gr_law_runs.specs.Undisturbed.{RunsUndisturbed}
 use Rattle.gr_law_runs.proofs.Runs.Plain.{undisturbed-in}

@@ -1,12 +1,16 @@
 -- What contracts see of a host and of a cluster.
-use Rattle.std.specs.Prelude.{ℕ, Bool, ◌==◌, List, Option, find}
+use Rattle.std.specs.Prelude.{ℕ, Bool, ◌≡◌, ◌==◌, List, Option, IfSome, find}
 use Rattle.gr_program.specs.declared.copy.VertexCopy.{VertexCopy}
 use Rattle.gr_program.specs.Program.{Program}
 use Rattle.gr_rows.specs.Layers.{CopyLayers}
 use Rattle.gr_arcs.specs.Layers.{EdgeLayers}
 use Rattle.gr_batch.specs.declared.batch.Batch.{Batch}
 use Rattle.gr_round.specs.Line.{RoundLine}
-use Rattle.gr_cluster.specs.Tables.{Host, Cluster, effective}
+use Rattle.gr_copies.specs.declared.view.RebuildView.{RebuildView}
+use Rattle.gr_log.specs.Log.{Log}
+use Rattle.gr_rules.specs.Taken.{Ends}
+use Rattle.gr_migrate.specs.Ends.{retired_edges}
+use Rattle.gr_cluster.specs.Tables.{Host, Cluster, effective, view_of}
 use Rattle.gr_cluster.specs.Ending.{effective_at}
 use Rattle.gr_agree.specs.Truth.{Truth}
 use Rattle.gr_agree.specs.Agree.{Agree}
@@ -41,10 +45,15 @@ pub record Agrees {V A : Type 0} (P : Program V A) (c : Cluster V A) : Type 0 wh
   pub state : Truth V
   pub holds : Agree P state c
 
+-- the edges of places that retire, if they are kept, are those in their logs
+abbrev pub RetiredFit : RebuildView → List Log → Option (List Ends) → Type 0
+RetiredFit w logs retired = IfSome retired (λ edges. edges ≡ retired_edges w logs)
+
 -- and the targets that it keeps are those of their place
-pub record Keeps {V A : Type 0} (P : Program V A) (c : Cluster V A) (kept : Option KeptTargets) : Type 0 where
+pub record Keeps {V A : Type 0} (P : Program V A) (c : Cluster V A) (kept : Option KeptTargets) (edges : Option (List Ends)) : Type 0 where
   pub agrees : Agrees P c
   pub targets : TargetsFit P c.coordinator.epoch (parties c.coordinator) c.hosts kept
+  pub retired : RetiredFit (view_of P c) c.logs edges
 
 module _ {V A : Type 0} where
   -- the copy of a vertex among those that a host shows

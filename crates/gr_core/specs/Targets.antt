@@ -29,10 +29,16 @@ module _ {V A : Type 0} where
   abbrev pub TargetsFit : Program V A → ℕ → List ℕ → List (Option (Host V A)) → Option KeptTargets → Type 0
   TargetsFit P e ps hosts kept = IfSome kept (λ k. (h : Host V A) → get_or hosts k.place None ≡ Some h → k.targets ≡ targets_of P e ps k.place h)
 
-  -- they are kept if the next work of a place takes them
+  -- they are kept, if the next work of a host takes them
+  abbrev pub AreKeptFor : Program V A → RoundView → ℕ → Host V A → Option KeptTargets → Type 0
+  AreKeptFor P w p h kept = IsTrue (takes_targets h.stage (next_of p w h)) → IsSomeAnd kept (λ k. k.targets ≡ targets_of P w.epoch w.parties p h)
+
   abbrev pub AreKept : Program V A → RoundView → ℕ → List (Option (Host V A)) → Option KeptTargets → Type 0
-  AreKept P w p hosts kept = (h : Host V A) → get_or hosts p None ≡ Some h → IsTrue (takes_targets h.stage (next_of p w h))
-      → IsSomeAnd kept (λ k. k.targets ≡ targets_of P w.epoch w.parties p h)
+  AreKept P w p hosts kept = (h : Host V A) → get_or hosts p None ≡ Some h → AreKeptFor P w p h kept
+
+  -- they are given, if the next work of a host takes them
+  abbrev pub AreGiven : Program V A → RoundView → ℕ → Host V A → List Target → Type 0
+  AreGiven P w p h targets = IsTrue (takes_targets h.stage (next_of p w h)) → targets ≡ targets_of P w.epoch w.parties p h
 
   -- a host has the copies, the edges and the inbox that the host of the place had
   pub record StandsAsBefore (hosts : List (Option (Host V A))) (p : ℕ) (h : Host V A) : Type 0 where

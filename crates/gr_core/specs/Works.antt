@@ -1,38 +1,27 @@
 -- What the work of a place in a round needs, by its host.
-use Rattle.std.specs.Prelude.{ℕ, ◌≡◌, false, IsTrue, IsSome, List, Option, map}
-use Rattle.gr_base.specs.Places.{without_place}
+use Rattle.std.specs.Prelude.{ℕ, ◌≡◌, false, IsTrue, IsSome, List, Option}
 use Rattle.gr_program.specs.Program.{Program}
-use Rattle.gr_rows.specs.Layers.{vertex_of}
 use Rattle.gr_log.specs.Log.{Log}
 use Rattle.gr_batch.specs.declared.batch.Batch.{Batch}
-use Rattle.gr_batch.specs.declared.stage.Stage.TheVariants as stage
 use Rattle.gr_batch.specs.Stages.{is_end}
 use Rattle.gr_view.specs.declared.coordinator.Coordinator.{Coordinator}
 use Rattle.gr_view.specs.declared.coordinator.Mode.TheVariants as mode
 use Rattle.gr_rules.specs.Exchange.{unsent}
 use Rattle.gr_rules.specs.Todo.{Todo}
 use Rattle.gr_rules.specs.AtPlace.{due_count}
-use Rattle.gr_low.specs.Sources.{SourcesReady}
 use Rattle.gr_round.specs.declared.view.RoundView.{RoundView}
-use Rattle.gr_rules.specs.Inbox.{bodies}
-use Rattle.gr_round.specs.Line.{is_of_round, has_new_values}
-use Rattle.gr_round.specs.Needs.{ValuesFit, GathersFit, UpdatesFit, SignalsRise, CallsRise, NewValuesAreStaged}
+use Rattle.gr_round.specs.Line.{is_of_round}
+use Rattle.gr_round.specs.Needs.{RoundReady}
+use Rattle.gr_round.specs.Party.{party_at}
 use Rattle.gr_cluster.specs.Tables.{Host, Cluster}
 use Rattle.gr_cluster.specs.Todo.{todo}
-use Rattle.gr_cluster.specs.Work.{exchange_of}
 use Rattle.gr_law_work.specs.InRound.{MayAct}
 use Rattle.gr_law_work.specs.InRebuild.{MayReport}
+use Rattle.gr_core.specs.Steps.{line_of, copies_of}
 
 -- the copies, the edges and the inbox of a host are fit for the work of a round
-pub record NeedsHold {V A : Type 0} (P : Program V A) (p : ℕ) (w : RoundView) (h : Host V A) : Type 0 where
-  pub sources : SourcesReady P h.stable h.arcs
-  pub values : ValuesFit P h.stable
-  pub gathers : GathersFit h.inbox w.epoch (without_place w.parties p) P
-  pub updates : UpdatesFit h.inbox w.epoch (without_place w.parties p) h.stable
-  pub signals : SignalsRise h.inbox w.epoch (without_place w.parties p)
-  pub calls : CallsRise h.inbox w.epoch (without_place w.parties p)
-  pub pending : map vertex_of h.pending ≡ map vertex_of h.stable
-  pub staged : IsTrue (has_new_values (exchange_of h)) → NewValuesAreStaged P p h.stable h.arcs (bodies h.inbox w.epoch stage.Gather (without_place w.parties p)) h.pending
+abbrev pub NeedsHold : {V A : Type 0} → Program V A → ℕ → RoundView → Host V A → Type 0
+NeedsHold P p w h = RoundReady P (party_at p w (line_of h)) h.inbox (copies_of h) h.arcs
 
 -- a computed stage of a host is still to be sent to one of the others
 pub record MaySend {V A : Type 0} (others : List ℕ) (h : Host V A) : Type 0 where

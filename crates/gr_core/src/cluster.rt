@@ -18,6 +18,7 @@ mod rebuild;
 mod recover;
 mod repair;
 mod results;
+mod retired;
 mod spares;
 mod step;
 mod work;
@@ -25,13 +26,14 @@ mod work;
 use crate::host::Host;
 use crate::load::first_places;
 use crate::targets::KeptTargets;
-use gr_base::{OutOfMemory, PlaceSet};
+use gr_base::{Items, OutOfMemory, PlaceSet};
 use gr_copies::first_holders;
 use gr_cut::cut;
 use gr_edges::Graph;
 use gr_flight::Flight;
 use gr_job::Job;
 use gr_log::EdgeLog;
+use gr_migrate::LoggedEdge;
 use gr_program::{VertexCopy, VertexProgram};
 use gr_view::{Coordinator, Mode};
 use std::alloc::Global;
@@ -53,6 +55,7 @@ pub struct Cluster<P: VertexProgram> {
     pub(crate) theta: u32,
     pub(crate) program: P,
     pub(crate) kept: Option<KeptTargets>,
+    pub(crate) retired: Option<Items<LoggedEdge>>,
 }
 
 impl<P: VertexProgram> Model for Cluster<P> {
@@ -62,7 +65,7 @@ impl<P: VertexProgram> Model for Cluster<P> {
 
     ghost view = { λ c. record { program = c.program; cluster = record { hosts = c.hosts.items; logs = c.logs.items; flight = c.flight; serial = c.serial; coordinator = c.coordinator; places = c.places; losses = c.losses; theta = c.theta } } };
 
-    ghost invariant = { λ c. Keeps (P.program_of c.program) (record { hosts = c.hosts.items; logs = c.logs.items; flight = c.flight; serial = c.serial; coordinator = c.coordinator; places = c.places; losses = c.losses; theta = c.theta }) c.kept };
+    ghost invariant = { λ c. Keeps (P.program_of c.program) (record { hosts = c.hosts.items; logs = c.logs.items; flight = c.flight; serial = c.serial; coordinator = c.coordinator; places = c.places; losses = c.losses; theta = c.theta }) c.kept c.retired };
 }
 
 impl<P: VertexProgram> Cluster<P> {
@@ -101,6 +104,7 @@ impl<P: VertexProgram> Cluster<P> {
             theta,
             program,
             kept: None,
+            retired: None,
         })
     }
 

@@ -1,7 +1,6 @@
-ghost use Rattle.std.specs.Prelude.{◌≡◌, ◌==◌, ◌+◌, ◌-◌, ◌^◌, ◌<◌, false, Some, IfOk, IsOk, OnOk, OnErr, IsTrue, IsSome, IfSome, map};
+ghost use Rattle.std.specs.Prelude.{◌≡◌, ◌==◌, ◌+◌, ◌-◌, ◌^◌, ◌<◌, false, Some, IfOk, IsOk, OnOk, OnErr, IsTrue, IsSome, IfSome};
 ghost use Rattle.std.specs.List.{list_any};
 ghost use Rattle.gr_base.specs.Places.{without_place};
-ghost use Rattle.gr_rows.specs.Layers.{vertex_of};
 ghost use Rattle.gr_batch.specs.declared.stage.Stage.TheVariants as stage;
 ghost use Rattle.gr_batch.specs.Bodies.{is_of, stage_of_body};
 ghost use Rattle.gr_batch.specs.Stages.{is_end};
@@ -9,18 +8,14 @@ ghost use Rattle.gr_view.specs.declared.coordinator.Mode.{Mode};
 ghost use Rattle.gr_view.specs.Modes.{is_rebuild};
 ghost use Rattle.gr_rules.specs.Exchange.{unsent};
 ghost use Rattle.gr_rules.specs.Todo.{is_act};
-ghost use Rattle.gr_low.specs.Sources.{SourcesReady};
-ghost use Rattle.gr_rules.specs.Inbox.{bodies};
 ghost use Rattle.gr_round.specs.Kept.{takes_targets};
-ghost use Rattle.gr_round.specs.Line.{has_new_values};
-ghost use Rattle.gr_core.specs.Targets.{targets_of};
+ghost use Rattle.gr_core.specs.Targets.{AreGiven, targets_of};
 ghost use Rattle.gr_core.specs.Works.{NeedsHold};
-ghost use Rattle.gr_round.specs.Needs.{ValuesFit, GathersFit, UpdatesFit, SignalsRise, CallsRise, NewValuesAreStaged};
 ghost use Rattle.gr_round.specs.Todo.{is_told};
 ghost use Rattle.gr_cluster.specs.Load.{fresh_host};
 ghost use Rattle.gr_cluster.specs.Stages.{first_stage};
 ghost use Rattle.gr_cluster.specs.Network.{fate_at, received};
-ghost use Rattle.gr_cluster.specs.Work.{exchange_of, installed_host, adopted_host, sent_host};
+ghost use Rattle.gr_cluster.specs.Work.{installed_host, adopted_host, sent_host};
 ghost use Rattle.gr_core.specs.Steps.{next_of, answer_of, acted_host};
 ghost use Rattle.gr_core.specs.Tables.{copy_in};
 ghost use Rattle.gr_core.specs.Turns.{turn_of};
@@ -34,7 +29,7 @@ use gr_base::{OutOfMemory, PlaceSet};
 use gr_batch::{Batch, Fate, Stage, copy_of};
 use gr_flight::Inbox;
 use gr_program::{VertexCopy, VertexProgram};
-use gr_round::{Act, PlaceRound, RoundView};
+use gr_round::{Act, Given, PlaceRound, RoundView};
 use gr_rows::Rows;
 use gr_signal::Targets;
 use gr_view::Coordinator;
@@ -190,30 +185,22 @@ impl<P: VertexProgram> Host<P> {
         program: &P,
         targets: &Targets,
     ) -> Result<Act<P::Value, P::Acc>, OutOfMemory>
-        requires sources { SourcesReady (P.program_of program.now) self.old.stable self.old.arcs }
-        requires values { ValuesFit (P.program_of program.now) self.old.stable }
-        requires gathers { GathersFit self.old.inbox view.now.epoch (without_place view.now.parties me) (P.program_of program.now) }
-        requires updates { UpdatesFit self.old.inbox view.now.epoch (without_place view.now.parties me) self.old.stable }
-        requires signals { SignalsRise self.old.inbox view.now.epoch (without_place view.now.parties me) }
-        requires calls { CallsRise self.old.inbox view.now.epoch (without_place view.now.parties me) }
-        requires pending { map vertex_of self.old.pending ≡ map vertex_of self.old.stable }
-        requires staged { IsTrue (has_new_values (exchange_of self.old)) → NewValuesAreStaged (P.program_of program.now) me self.old.stable self.old.arcs (bodies self.old.inbox view.now.epoch stage.Gather (without_place view.now.parties me)) self.old.pending }
-        requires targets { IsTrue (takes_targets self.old.stage (next_of me view.now self.old)) → targets.now ≡ targets_of (P.program_of program.now) view.now.epoch view.now.parties me self.old }
-        ensures answer { IfOk result (λ act. act ≡ answer_of (P.program_of program.now) me view.now self.old (next_of me view.now self.old)) }
-        ensures host { OnOk result (self.new ≡ acted_host (P.program_of program.now) me view.now self.old (next_of me view.now self.old)) }
+        requires needs { NeedsHold (P.program_of program.now) me view.now self.old }
+        requires targets { AreGiven (P.program_of program.now) view.now me self.old targets.now }
+        ensures answer { IfOk result (λ act. act
+            ≡ answer_of (P.program_of program.now) me view.now self.old (next_of me view.now self.old)) }
+        ensures host { OnOk result (self.new
+            ≡ acted_host (P.program_of program.now) me view.now self.old (next_of me view.now self.old)) }
         ensures told { IsTrue (is_told (next_of me view.now self.old)) → IsOk result }
         ensures err { OnErr result (self.new ≡ self.old) }
     {
-        self.round.act(
-            alloc,
-            me,
-            view,
+        let given = Given {
             program,
-            &mut self.rows,
-            &self.arcs,
-            &self.inbox,
-            targets,
-        )
+            arcs: &self.arcs,
+            inbox: &self.inbox,
+        };
+        self.round
+            .act(alloc, me, view, &mut self.rows, &given, targets)
     }
 
     // Whether what comes next at the place `me` in a round takes the targets of what woke.
@@ -231,18 +218,16 @@ impl<P: VertexProgram> Host<P> {
         view: &RoundView,
         program: &P,
     ) -> Result<Targets, OutOfMemory>
-        requires { NeedsHold (P.program_of program.now) me view.now self.now }
-        ensures { IfOk result (λ targets. targets ≡ targets_of (P.program_of program.now) view.now.epoch view.now.parties me self.now) }
+        requires needs { NeedsHold (P.program_of program.now) me view.now self.now }
+        ensures { IfOk result (λ targets. targets
+            ≡ targets_of (P.program_of program.now) view.now.epoch view.now.parties me self.now) }
     {
-        self.round.targets(
-            alloc,
-            me,
-            view,
+        let given = Given {
             program,
-            &self.rows,
-            &self.arcs,
-            &self.inbox,
-        )
+            arcs: &self.arcs,
+            inbox: &self.inbox,
+        };
+        self.round.targets(alloc, me, view, &self.rows, &given)
     }
 
     // Whether there is something to do at the place `me` in a round of an epoch that it has adopted.

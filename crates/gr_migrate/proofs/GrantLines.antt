@@ -1,5 +1,5 @@
 -- What a place grants in a recovery: no further holders are wanted there.
-use Rattle.std.proofs.Common.{◌≡◌, ◌≤◌, ◌-◌, ◌==◌, take, ℕ, zero, suc, List, [], ◌∷◌, ◌++◌, Bool, true, false, not, Option, Some, None, length, min, if◌then◌else◌, refl, sym, ap, ◌∙◌, arith, eqb-true}
+use Rattle.std.proofs.Common.{◌≡◌, ◌≤◌, ◌-◌, ◌==◌, take, get_or, ℕ, zero, suc, List, [], ◌∷◌, ◌++◌, Bool, true, false, not, Option, Some, None, length, min, if◌then◌else◌, refl, sym, ap, ◌∙◌, arith, eqb-true}
 use Rattle.std.specs.Prelude.{◌&&◌, ◌||◌, nat_lt, unwrap_or}
 use Rattle.std.specs.List.{filter, list_any, filter_map}
 use Rattle.std.specs.Ordering.{nat_cmp}
@@ -10,7 +10,6 @@ use Rattle.gr_base.specs.Places.{below, with_place}
 use Rattle.gr_base.proofs.Ranges.{range-within}
 use Rattle.gr_lists.proofs.Tests.{by_test}
 use Rattle.gr_lists.proofs.Any.{has-filter}
-use Rattle.gr_lists.proofs.Each.{Each-always}
 use Rattle.gr_lists.proofs.Chosen.{if-some, filter_map-rises}
 use Rattle.gr_program.specs.declared.copy.VertexCopy.{VertexCopy}
 use Rattle.gr_copies.specs.declared.view.RebuildView.{RebuildView}
@@ -25,7 +24,7 @@ use Rattle.gr_migrate.specs.Askers.{askers}
 use Rattle.gr_migrate.specs.Granted.{grant_line, holders_after, holders_for}
 use Rattle.gr_migrate.proofs.Keyed.{is_at-number}
 use Rattle.gr_migrate.proofs.Picked.{gathered-more, gathered-same}
-use Rattle.gr_migrate.proofs.Asked.{filter-agree}
+use Rattle.gr_copies.proofs.Selecting.{filter-same}
 
 -- ---- no further holders
 
@@ -41,9 +40,10 @@ or-none false = refl
 
 pub new_holders-recovery : (w : RebuildView) (e : Entry) (asked : List ℕ) → new_holders w 0 e asked ≡ holders_after w e.holders asked
 unfolding new_holders holders_after
-new_holders-recovery w e asked = filter-agree _ _ (below w.places) (Each-always _ (λ q.
+new_holders-recovery w e asked = filter-same _ _ (below w.places) (λ k d lt.
+    let q = get_or (below w.places) k d in
     ap (λ xs. (has e.holders q && not (is_retiring w q)) || (has asked q || has xs q)) (extras-none w.live e.master e.holders)
-    ∙ ap (λ b. (has e.holders q && not (is_retiring w q)) || b) (or-none (has asked q))) (below w.places))
+    ∙ ap (λ b. (has e.holders q && not (is_retiring w q)) || b) (or-none (has asked q)))
 
 is_granted-recovery : (w : RebuildView) (e : Entry) (asked : List ℕ) → is_granted w 0 e asked ≡ (list_any (has w.dead) e.holders || nat_lt 0 (length asked))
 is_granted-recovery w e asked =

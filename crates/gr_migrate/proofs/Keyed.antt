@@ -1,11 +1,11 @@
 -- Ordered sets of numbers: an insert puts a number into a rising list.
-use Rattle.std.proofs.Common.{◌≡◌, ◌==◌, ◌||◌, ◌++◌, ℕ, List, [], ◌∷◌, Bool, true, false, if◌then◌else◌, refl, sym, ap, ◌∙◌, subst, arith, inl, inr}
+use Rattle.std.proofs.Common.{◌≡◌, ◌==◌, ℕ, List, [], ◌∷◌, refl, sym, ap, subst, arith, inl, inr}
 use Rattle.std.specs.List.{fold}
 use Rattle.std.specs.Ordering.{nat_cmp}
 use Rattle.std.specs.BTreeMap.{is_at}
 use Rattle.std.specs.BTreeSet.{insert_key}
 use Rattle.std.proofs.lemmas.Bool.{cases_order, eq-eqb, ne_eqb, lt-ltb, le-ltb}
-use Rattle.gr_base.specs.Rising.{RisesBy, has, with_item}
+use Rattle.gr_base.specs.Rising.{RisesBy, with_item}
 use Rattle.gr_base.proofs.Rising.{with-rises}
 use Rattle.gr_base.specs.Places.{with_place}
 
@@ -27,21 +27,6 @@ is_at-number k n = elim (cases_order k n) [
     | inr gt ↦ rw (le-ltb k n (omega arith), ne_eqb k n (λ e. omega arith)) refl
   ]
 ]
-
--- whether one of some numbers and a further one is n
-pub has-more : (ns : List ℕ) (k n : ℕ) → has (ns ++ k ∷ []) n ≡ (if k == n then true else has ns n)
-has-more [] k n = either (k == n)
-  where
-    either : (b : Bool) → (b || false) ≡ (if b then true else false)
-    either true = refl
-    either false = refl
-has-more (x ∷ xs) k n = ap (λ b. (x == n) || b) (has-more xs k n) ∙ moved (x == n) (k == n) (has xs n)
-  where
-    moved : (a b c : Bool) → (a || (if b then true else c)) ≡ (if b then true else (a || c))
-    moved true true c = refl
-    moved false true c = refl
-    moved true false c = refl
-    moved false false c = refl
 
 place-item : (ns : List ℕ) (n : ℕ) → with_place ns n ≡ with_item (λ (k : ℕ). k) n ns
 place-item [] n = refl

@@ -1,14 +1,10 @@
-pub mod Asked
 pub mod AskedBy
-pub mod AskedParts
 pub mod Fronts
 pub mod GrantLines
 pub mod Included
 pub mod Keyed
 pub mod Known
 pub mod LostParts
-pub mod Once
 pub mod Picked
 pub mod Placed
-pub mod TakenParts
-pub mod TestLogs
+pub mod RetiredParts

@@ -27,3 +27,8 @@ module _ {X : Type 0} (test : X → Bool) where
 
     pub gathered-same : (xs : List X) (x : X) → test x ≡ false → gathered (xs ++ x ∷ []) ≡ gathered xs
     gathered-same xs x off = ap (λ l. fold with_place old (map key l)) (filter-same xs x off)
+
+  pub gathered-append : (key : X → ℕ) (old : List ℕ) (xs ys : List X) → gathered key old (xs ++ ys) ≡ gathered key (gathered key old xs) ys
+  gathered-append key old xs ys =
+      ap (λ l. fold with_place old (map key l)) (filter-append test xs ys)
+      ∙ (ap (fold with_place old) (map-append key (filter test xs) (filter test ys)) ∙ fold-append with_place old (map key (filter test xs)) (map key (filter test ys)))

@@ -43,6 +43,10 @@ pub map-flat_map : {X Y Z : Type 0} (f : Y → Z) (g : X → List Y) (xs : List 
 map-flat_map f g [] = λ i. []
 map-flat_map f g (x ∷ xs) = map-append f (g x) (flat_map g xs) ∙ ap (λ l. map f (g x) ++ l) (map-flat_map f g xs)
 
+pub filter-flat_map : {X Y : Type 0} (f : Y → Bool) (g : X → List Y) (xs : List X) → filter f (flat_map g xs) ≡ flat_map (λ x. filter f (g x)) xs
+filter-flat_map f g [] = λ i. []
+filter-flat_map f g (x ∷ xs) = filter-append f (g x) (flat_map g xs) ∙ ap (λ l. filter f (g x) ++ l) (filter-flat_map f g xs)
+
 -- a place above all others goes to the end
 with_place-end : (ps : List ℕ) (p : ℕ) → Each (λ q. q < p) ps → with_place ps p ≡ ps ++ p ∷ []
 with_place-end [] p h = λ i. p ∷ []

@@ -1,38 +1,33 @@
--- What a place asks for that takes some edges.
-use Rattle.std.specs.Prelude.{ℕ, ◌≡◌, ◌&&◌, Bool, true, List, [], ◌∷◌, map, flat_map, is_none}
-use Rattle.std.specs.List.{All, filter}
+-- What a place takes over of some edges of places that retire, and what it asks for.
+use Rattle.std.specs.Prelude.{ℕ, ◌&&◌, Bool, List, [], ◌∷◌, map, flat_map, is_none}
+use Rattle.std.specs.List.{filter, fold}
 use Rattle.gr_base.specs.declared.records.NumberedEdge.{NumberedEdge}
-use Rattle.gr_base.specs.Rising.{has}
+use Rattle.gr_base.specs.Places.{with_place}
 use Rattle.gr_program.specs.declared.copy.VertexCopy.{VertexCopy}
 use Rattle.gr_copies.specs.declared.view.RebuildView.{RebuildView}
-use Rattle.gr_log.specs.Log.{Log}
-use Rattle.gr_log.specs.Directory.{Entry, edges_in, rising, KeepsEachOnce}
+use Rattle.gr_log.specs.Directory.{Entry, with_items}
 use Rattle.gr_rules.specs.Rows.{row}
-use Rattle.gr_rules.specs.Taken.{Ends, edges_with_ends, is_granter, log_at}
-use Rattle.gr_migrate.specs.Ends.{retiring}
+use Rattle.gr_rules.specs.Taken.{Ends, is_granter, goes_to}
 
--- whether an edge in a log is one of those taken
-abbrev pub is_among : List NumberedEdge → Ends → Bool
-is_among taken x = has (map (λ a. a.number) taken) x.arc.number
+-- those that go to p, by rising number
+unfoldable pub taken_among : RebuildView → ℕ → List Ends → List NumberedEdge
+taken_among w p edges = with_items (λ a. a.number) (map (λ x. x.arc) (filter (goes_to w p) edges)) []
 
+-- the entries of their ends
 abbrev pub both_ends : Ends → List Entry
 both_ends x = x.src ∷ x.dst ∷ []
 
--- the entries of the ends of the taken edges, in the logs of the places that retire
-unfoldable pub taken_ends : RebuildView → List Log → List NumberedEdge → List Entry
-taken_ends w logs taken =
-    flat_map (λ r. flat_map both_ends (filter (is_among taken) (edges_with_ends (log_at logs r).committed))) (retiring w)
+abbrev pub ends_taken : RebuildView → ℕ → List Ends → List Entry
+ends_taken w p edges = flat_map both_ends (filter (goes_to w p) edges)
 
 -- whether the vertex of an entry has no copy among these, and q grants it
 abbrev pub is_missing_from : {V : Type 0} → RebuildView → List (VertexCopy V) → ℕ → Entry → Bool
 is_missing_from w rows q e = is_none (row rows e.vertex) && is_granter w e q
 
--- the vertices that a place with these copies asks q for, where it takes these edges
-unfoldable pub asked_of : {V : Type 0} → RebuildView → List Log → List NumberedEdge → List (VertexCopy V) → ℕ → List ℕ
-asked_of w logs taken rows q = rising (map (λ e. e.vertex) (filter (is_missing_from w rows q) (taken_ends w logs taken)))
+-- a rising list with the vertices of those entries that have no copy among these and that q grants
+abbrev pub with_missing : {V : Type 0} → RebuildView → List (VertexCopy V) → ℕ → List ℕ → List Entry → List ℕ
+with_missing w rows q vertices entries = fold with_place vertices (map (λ e. e.vertex) (filter (is_missing_from w rows q) entries))
 
--- each edge has one Kept record in the logs of the places that retire
-pub record KeptOnce (w : RebuildView) (logs : List Log) : Type 0 where
-  pub in_each : All (λ r. KeepsEachOnce (log_at logs r).committed) (retiring w)
-  pub in_one : (r q n : ℕ) → has (retiring w) r ≡ true → has (retiring w) q ≡ true
-      → has (map (λ a. a.number) (edges_in (log_at logs r).committed)) n ≡ true → has (map (λ a. a.number) (edges_in (log_at logs q).committed)) n ≡ true → r ≡ q
+-- the vertices that p with these copies asks q for
+unfoldable pub asked_among : {V : Type 0} → RebuildView → ℕ → List (VertexCopy V) → ℕ → List Ends → List ℕ
+asked_among w p rows q edges = with_missing w rows q [] (ends_taken w p edges)

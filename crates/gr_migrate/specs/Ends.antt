@@ -1,5 +1,5 @@
 -- The edges of a log with the entries of their ends.
-use Rattle.std.specs.Prelude.{ℕ, ◌≡◌, ◌==◌, true, List, Option}
+use Rattle.std.specs.Prelude.{ℕ, ◌≡◌, ◌==◌, true, List, Option, flat_map}
 use Rattle.std.specs.List.{All, filter, find}
 use Rattle.gr_base.specs.declared.records.NumberedEdge.{NumberedEdge}
 use Rattle.gr_base.specs.Rising.{has}
@@ -9,7 +9,7 @@ use Rattle.gr_copies.specs.declared.view.RebuildView.{RebuildView}
 use Rattle.gr_copies.specs.Granter.{is_retiring}
 use Rattle.gr_log.specs.Log.{Log}
 use Rattle.gr_log.specs.Directory.{Entry, directory_in}
-use Rattle.gr_rules.specs.Taken.{Ends, ends_of, master_after, log_at}
+use Rattle.gr_rules.specs.Taken.{Ends, ends_of, edges_with_ends, master_after, log_at}
 
 -- an edge with the entries of its ends, where both are there
 abbrev pub ends_among : List Entry → NumberedEdge → Option Ends
@@ -34,3 +34,7 @@ retiring w = filter (is_retiring w) (below w.places)
 -- in the log of each place that retires, the last entry of each vertex has its master among its holders
 abbrev pub MastersKnown : RebuildView → List Log → Type 0
 MastersKnown w logs = All (λ r. All KnowsMaster (directory_in (log_at logs r).committed)) (retiring w)
+
+-- the edges in their logs, one log after another
+unfoldable pub retired_edges : RebuildView → List Log → List Ends
+retired_edges w logs = flat_map (λ r. edges_with_ends (log_at logs r).committed) (retiring w)

@@ -12,13 +12,13 @@ use std::marker::Model;
 
 /// An edge in a log, with what the log says of its ends.
 #[derive(Clone, Copy, Debug)]
-pub(crate) struct Ends {
+pub struct LoggedEdge {
     pub arc: NumberedEdge,
     pub src: LogEntry,
     pub dst: LogEntry,
 }
 
-impl Model for Ends {
+impl Model for LoggedEdge {
     ghost use Rattle.gr_rules.specs.Taken.{Ends as ends};
 
     ghost Value = { ends };
@@ -42,13 +42,13 @@ pub(crate) fn records_at(
     }
 }
 
-/// The edges in the log of a place with the entries of their ends there, in the order of their records, but for edges
+/// The edges in the log of a place with the entries of their ends there, in the order of their records, except edges
 /// of which an end has no entry.
 pub(crate) fn edges_with_ends(
     alloc: Global,
     logs: &[EdgeLog],
     p: u8,
-) -> Result<Items<Ends>, OutOfMemory>
+) -> Result<Items<LoggedEdge>, OutOfMemory>
     ensures { IfOk result (λ edges. edges ≡ edges_in_log (log_at logs.now p).committed) }
 {
     let records = records_at(alloc, logs, p)?;
@@ -57,12 +57,12 @@ pub(crate) fn edges_with_ends(
     with_ends(alloc, kept.as_slice(), entries.as_slice())
 }
 
-/// Edges with the entries of their ends, but for those of which an end has no entry.
+/// Edges with the entries of their ends, except those of which an end has no entry.
 fn with_ends(
     alloc: Global,
     arcs: &[NumberedEdge],
     entries: &[LogEntry],
-) -> Result<Items<Ends>, OutOfMemory>
+) -> Result<Items<LoggedEdge>, OutOfMemory>
     requires { RisesBy (λ e. e.vertex) entries.now }
     ensures { IfOk result (λ edges. edges ≡ filter_map (ends_among entries.now) arcs.now) }
 {
@@ -76,13 +76,13 @@ fn with_ends(
 }
 
 /// An edge with the entries of its ends, each found by a binary search.
-fn ends_of(arc: &NumberedEdge, entries: &[LogEntry]) -> Option<Ends>
+fn ends_of(arc: &NumberedEdge, entries: &[LogEntry]) -> Option<LoggedEdge>
     requires { RisesBy (λ e. e.vertex) entries.now }
     ensures { result ≡ ends_among entries.now arc.now }
 {
     let src = entry_of(entries, arc.edge.src)?;
     let dst = entry_of(entries, arc.edge.dst)?;
-    Some(Ends {
+    Some(LoggedEdge {
         arc: *arc,
         src,
         dst,

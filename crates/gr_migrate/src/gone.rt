@@ -18,7 +18,7 @@ use std::collections::BTreeSet;
 ///
 /// # Errors
 ///
-/// `OutOfMemory` where memory runs out.
+/// `OutOfMemory` if memory runs out.
 pub fn lost(alloc: Global, logs: &[EdgeLog], dead: PlaceSet) -> Result<Items<u32>, OutOfMemory>
     ensures { IfOk result (λ vertices. vertices ≡ lost_of dead logs.now) }
 {

@@ -31,7 +31,7 @@ pub struct AskFrom {
 ///
 /// # Errors
 ///
-/// `OutOfMemory` where memory runs out.
+/// `OutOfMemory` if memory runs out.
 pub fn grants<V: Datum>(
     alloc: Global,
     me: u8,

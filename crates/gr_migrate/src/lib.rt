@@ -7,9 +7,12 @@ mod ends;
 mod gone;
 mod grant;
 mod masters;
+mod retired;
 mod taking;
 
 pub use ask::asks;
+pub use ends::LoggedEdge;
 pub use gone::lost;
 pub use grant::{AskFrom, grants};
+pub use retired::retired_edges;
 pub use taking::taken_edges;

@@ -4,7 +4,7 @@ ghost use Rattle.gr_copies.specs.Granter.{is_retiring as retires, granter as act
 ghost use Rattle.gr_rules.specs.Taken.{is_granter as grants, master_after as master_then};
 ghost use Rattle.gr_migrate.specs.Ends.{place_after as place_then, KnowsMaster};
 
-use crate::ends::Ends;
+use crate::ends::LoggedEdge;
 use gr_base::Directory;
 use gr_copies::{RebuildView, acting_master};
 use gr_cut::{edge_place, is_high};
@@ -56,12 +56,12 @@ pub(crate) fn master_after(view: &RebuildView, entry: &LogEntry) -> u8
 }
 
 /// The place of an edge under the masters after the rebuild.
-pub(crate) fn place_after(view: &RebuildView, ends: &Ends) -> u8
-    requires src { KnowsMaster ends.now.src }
-    requires dst { KnowsMaster ends.now.dst }
-    ensures { result ≡ place_then view.now ends.now }
+pub(crate) fn place_after(view: &RebuildView, edge: &LoggedEdge) -> u8
+    requires src { KnowsMaster edge.now.src }
+    requires dst { KnowsMaster edge.now.dst }
+    ensures { result ≡ place_then view.now edge.now }
 {
-    let src = master_after(view, &ends.src);
-    let dst = master_after(view, &ends.dst);
-    edge_place(src, dst, is_high(ends.dst.indeg, view.theta))
+    let src = master_after(view, &edge.src);
+    let dst = master_after(view, &edge.dst);
+    edge_place(src, dst, is_high(edge.dst.indeg, view.theta))
 }

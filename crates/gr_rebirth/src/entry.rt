@@ -23,9 +23,21 @@ impl Model for LogEntry {
 
     ghost Value = { Entry };
 
-    ghost view = { λ e. record { vertex = e.vertex; indeg = e.indeg; outdeg = e.outdeg; master = e.master; holders = e.holders } };
+    ghost view = { λ e. record {
+      vertex = e.vertex;
+      indeg = e.indeg;
+      outdeg = e.outdeg;
+      master = e.master;
+      holders = e.holders;
+    } };
 
-    ghost inverse = { λ e. record { vertex = e.vertex; indeg = e.indeg; outdeg = e.outdeg; master = e.master; holders = e.holders } };
+    ghost inverse = { λ e. record {
+      vertex = e.vertex;
+      indeg = e.indeg;
+      outdeg = e.outdeg;
+      master = e.master;
+      holders = e.holders;
+    } };
 }
 
 impl Numbered for LogEntry {

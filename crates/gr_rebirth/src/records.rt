@@ -13,7 +13,7 @@ use std::alloc::Global;
 ///
 /// # Errors
 ///
-/// `OutOfMemory` where memory runs out.
+/// `OutOfMemory` if memory runs out.
 pub fn directory(alloc: Global, records: &[LogRecord]) -> Result<Items<LogEntry>, OutOfMemory>
     ensures entries { IfOk result (λ entries. entries ≡ directory_in records.now) }
     ensures rise { IfOk result (λ entries. RisesBy (λ e. e.vertex) entries) }
@@ -26,7 +26,7 @@ pub fn directory(alloc: Global, records: &[LogRecord]) -> Result<Items<LogEntry>
 ///
 /// # Errors
 ///
-/// `OutOfMemory` where memory runs out.
+/// `OutOfMemory` if memory runs out.
 pub fn edges(alloc: Global, records: &[LogRecord]) -> Result<Items<NumberedEdge>, OutOfMemory>
     ensures edges { IfOk result (λ edges. edges ≡ edges_in records.now) }
     ensures rise { IfOk result (λ edges. RisesBy (λ a. a.number) edges) }
@@ -39,7 +39,7 @@ pub fn edges(alloc: Global, records: &[LogRecord]) -> Result<Items<NumberedEdge>
 ///
 /// # Errors
 ///
-/// `OutOfMemory` where memory runs out.
+/// `OutOfMemory` if memory runs out.
 pub fn kept_edges(alloc: Global, records: &[LogRecord]) -> Result<Items<NumberedEdge>, OutOfMemory>
     ensures { IfOk result (λ edges. edges ≡ edges_kept records.now) }
 {

@@ -27,7 +27,7 @@ pub struct Rebuilt<V: Datum> {
 ///
 /// # Errors
 ///
-/// `OutOfMemory` where memory runs out.
+/// `OutOfMemory` if memory runs out.
 pub fn blank<V: Datum>(alloc: Global, log: &EdgeLog) -> Result<Rebuilt<V>, OutOfMemory>
     ensures copies { IfOk result (λ rebuilt. rebuilt.rows.stable ≡ blank_rows log.now.committed) }
     ensures pending_copies { IfOk result (λ rebuilt. rebuilt.rows.pending ≡ blank_rows log.now.committed) }

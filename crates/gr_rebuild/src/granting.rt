@@ -29,7 +29,7 @@ use std::alloc::Global;
 ///
 /// # Errors
 ///
-/// `OutOfMemory` where memory runs out.
+/// `OutOfMemory` if memory runs out.
 pub fn granted_to<V: Datum, A: Datum>(
     alloc: Global,
     place: &PlaceInRebuild,
@@ -58,7 +58,7 @@ pub fn granted_to<V: Datum, A: Datum>(
 ///
 /// # Errors
 ///
-/// `OutOfMemory` where memory runs out.
+/// `OutOfMemory` if memory runs out.
 pub fn granted<V: Datum, A: Datum>(
     alloc: Global,
     place: &PlaceInRebuild,

@@ -1,5 +1,5 @@
-//! One place in a recovery or a repair: what it asks for, what it grants, what is granted to it, and what it stages and
-//! records at the end.
+//! One place in a recovery or a repair: what it was asked for, what it grants, what is granted to it, and what it
+//! stages and records at the end.
 #![tactic(auto)]
 
 mod asking;
@@ -8,7 +8,7 @@ mod place;
 mod recording;
 mod staging;
 
-pub use asking::{ask_to, asked};
+pub use asking::asked;
 pub use granting::{granted, granted_to};
 pub use place::PlaceInRebuild;
 pub use recording::record;

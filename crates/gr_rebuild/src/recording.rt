@@ -17,7 +17,7 @@ use gr_program::{Datum, VertexCopy};
 ///
 /// # Errors
 ///
-/// `OutOfMemory` where memory runs out. Then the log is as before.
+/// `OutOfMemory` if memory runs out. Then the log is as before.
 pub fn record<V: Datum>(
     log: &mut EdgeLog,
     granted: &[VertexCopy<V>],

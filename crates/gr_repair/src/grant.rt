@@ -23,7 +23,7 @@ use std::alloc::Global;
 ///
 /// # Errors
 ///
-/// `OutOfMemory` where memory runs out.
+/// `OutOfMemory` if memory runs out.
 pub fn grants_for_short<V: Datum>(
     alloc: Global,
     me: u8,
@@ -35,7 +35,8 @@ pub fn grants_for_short<V: Datum>(
     requires live { All (λ q. q < view.now.places) view.now.live }
     requires dead { view.now.dead ≡ [] }
     requires held { All (IsHeldLive view.now.live) rows.now.stable }
-    ensures body { IfOk result (λ body. body ≡ grant_body view.now (wanted true view.now) me (λ _. []) rows.now.stable to) }
+    ensures body { IfOk result (λ body. body
+        ≡ grant_body view.now (wanted true view.now) me (λ _. []) rows.now.stable to) }
     ensures rise { IfOk result (λ body. RisesBy vertex_of body) }
 {
     let mut body = Items::new(alloc);
@@ -61,7 +62,8 @@ fn copy_for<V: Datum>(
     requires live { All (λ q. q < view.now.places) view.now.live }
     requires dead { view.now.dead ≡ [] }
     requires held { IsHeldLive view.now.live copy.now }
-    ensures { result ≡ (if is_granted_to view.now (wanted true view.now) me to copy.now [] then Some (granted_copy view.now (wanted true view.now) copy.now [] to) else None) }
+    ensures { result ≡ (if is_granted_to view.now (wanted true view.now) me to copy.now []
+        then Some (granted_copy view.now (wanted true view.now) copy.now [] to) else None) }
 {
     if !is_short(me, copy, view.losses, view.live) {
         return None;
@@ -87,7 +89,8 @@ fn extras_of<V: Datum>(copy: &VertexCopy<V>, view: &RebuildView) -> PlaceSet
     requires places { view.now.places ≤ 64 }
     requires live { All (λ q. q < view.now.places) view.now.live }
     requires held { IsHeldLive view.now.live copy.now }
-    ensures { (q : ℕ) → has result q ≡ has (extra_holders view.now.live (view.now.losses + 1) copy.now.master copy.now.holders) q }
+    ensures { (q : ℕ) → has result q
+        ≡ has (extra_holders view.now.live (view.now.losses + 1) copy.now.master copy.now.holders) q }
 {
     let directory = Directory {
         vertex: copy.vertex,

@@ -35,6 +35,7 @@ impl<P: VertexProgram> Cluster<P> {
         let before = self.coordinator;
         let down = self.down_among(looked_at(&before));
         self.kept = None;
+        self.retired = None;
         let verdict = self.coordinator.barrier(down);
         carry_out(&mut self.hosts, &mut self.logs, &before, down, verdict)
     }

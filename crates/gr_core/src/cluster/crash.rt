@@ -22,6 +22,7 @@ impl<P: VertexProgram> Cluster<P> {
     {
         let _count = self.places();
         self.kept = None;
+        self.retired = None;
         if lose(&mut self.hosts, p) {
             Outcome::Crashed(tear(&mut self.logs, p, keep))
         } else {

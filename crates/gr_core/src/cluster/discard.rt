@@ -21,6 +21,7 @@ impl<P: VertexProgram> Cluster<P> {
         let down = self.down_among(self.coordinator.parties());
         let back = going_back(self.coordinator.reborn, down);
         self.kept = None;
+        self.retired = None;
         let epoch = self.coordinator.discard(down);
         send_back(&mut self.hosts, &mut self.logs, back);
         discarded(epoch)

@@ -20,6 +20,7 @@ ghost use Rattle.gr_core.specs.Turns.{turn_of};
 ghost use Rattle.gr_core.specs.Rebuilds.{HasToDo};
 
 use crate::cluster::Cluster;
+use crate::cluster::retired::{edges_of, keep_retired};
 use crate::cluster::work::send;
 use crate::host::Host;
 use crate::turn::is_repair;
@@ -27,6 +28,7 @@ use gr_base::{Items, OutOfMemory, PlaceSet};
 use gr_batch::{Batch, Body, Outcome, Stage};
 use gr_copies::RebuildView;
 use gr_log::EdgeLog;
+use gr_migrate::LoggedEdge;
 use gr_program::VertexProgram;
 use gr_rebuild::PlaceInRebuild;
 use gr_round::{Step, others_of};
@@ -100,7 +102,9 @@ impl<P: VertexProgram> Cluster<P> {
         let place = self.place_in_rebuild(p);
         self.kept = None;
         let logs = self.logs.as_slice();
-        let stage = compute(self.alloc, &mut self.hosts, logs, &place)?;
+        keep_retired(self.alloc, &mut self.retired, logs, &place.view)?;
+        let retired = edges_of(&self.retired);
+        let stage = compute(self.alloc, &mut self.hosts, retired, &place)?;
         Ok(Outcome::Computed(stage))
     }
 
@@ -116,8 +120,10 @@ impl<P: VertexProgram> Cluster<P> {
     {
         let place = self.place_in_rebuild(p);
         let logs = self.logs.as_slice();
+        keep_retired(self.alloc, &mut self.retired, logs, &place.view)?;
+        let retired = edges_of(&self.retired);
         let host = &self.hosts[usize::from(p)];
-        let body = body_to(self.alloc, host, logs, &place, to)?;
+        let body = body_to(self.alloc, host, retired, &place, to)?;
         let batch = Batch {
             serial: self.serial,
             epoch: self.coordinator.epoch,
@@ -148,7 +154,10 @@ impl<P: VertexProgram> Cluster<P> {
     {
         let place = self.place_in_rebuild(p);
         self.kept = None;
-        let bytes = append(self.alloc, &mut self.hosts, &mut self.logs, &place)?;
+        let logs = self.logs.as_slice();
+        keep_retired(self.alloc, &mut self.retired, logs, &place.view)?;
+        let retired = edges_of(&self.retired);
+        let bytes = append(self.alloc, &mut self.hosts, &mut self.logs, retired, &place)?;
         Ok(Outcome::Appended(bytes))
     }
 
@@ -181,19 +190,19 @@ fn next_in_rebuild<P: VertexProgram>(slot: &Option<Host<P>>, p: u8, parties: Pla
 fn compute<P: VertexProgram>(
     alloc: Global,
     hosts: &mut Vec<Option<Host<P>>>,
-    logs: &[EdgeLog],
+    retired: &[LoggedEdge],
     place: &PlaceInRebuild,
 ) -> Result<Stage, OutOfMemory>
     requires place { place.now.place < length hosts.old.items }
-    requires ready { IfSome (get_or hosts.old.items place.now.place None) (λ h. ReadyToRebuild place.now logs.now h) }
+    requires ready { IfSome (get_or hosts.old.items place.now.place None) (λ h. ReadyToRebuild place.now retired.now h) }
     requires fresh { IfSome (get_or hosts.old.items place.now.place None) (λ h. h.computed ≡ false) }
     ensures stage { (h : Held P.Value P.Acc) → get_or hosts.old.items place.now.place None ≡ Some h → IfOk result (λ stage. stage ≡ h.stage) }
-    ensures hosts { (h : Held P.Value P.Acc) → get_or hosts.old.items place.now.place None ≡ Some h → OnOk result (hosts.new.items ≡ set hosts.old.items place.now.place (Some (computed_host place.now.others (rows_after place.now logs.now h h.stage) (arcs_after place.now logs.now h h.stage) h))) }
+    ensures hosts { (h : Held P.Value P.Acc) → get_or hosts.old.items place.now.place None ≡ Some h → OnOk result (hosts.new.items ≡ set hosts.old.items place.now.place (Some (computed_host place.now.others (rows_after place.now retired.now h h.stage) (arcs_after place.now retired.now h h.stage) h))) }
     ensures err { OnErr result (hosts.new.items ≡ hosts.old.items) }
 {
     match &mut hosts[usize::from(place.place)] {
         None => Ok(Stage::Ask),
-        Some(host) => host.compute_in_rebuild(alloc, place, logs),
+        Some(host) => host.compute_in_rebuild(alloc, place, retired),
     }
 }
 
@@ -201,16 +210,16 @@ fn compute<P: VertexProgram>(
 fn body_to<P: VertexProgram>(
     alloc: Global,
     slot: &Option<Host<P>>,
-    logs: &[EdgeLog],
+    retired: &[LoggedEdge],
     place: &PlaceInRebuild,
     to: u8,
 ) -> Result<Body<P::Value, P::Acc>, OutOfMemory>
-    requires { IfSome slot.now (λ h. ReadyToRebuild place.now logs.now h) }
-    ensures { (h : Held P.Value P.Acc) → slot.now ≡ Some h → IfOk result (λ body. body ≡ body_after place.now logs.now h to h.stage) }
+    requires { IfSome slot.now (λ h. ReadyToRebuild place.now retired.now h) }
+    ensures { (h : Held P.Value P.Acc) → slot.now ≡ Some h → IfOk result (λ body. body ≡ body_after place.now retired.now h to h.stage) }
 {
     match slot {
         None => Ok(Body::Ask(Items::new(alloc))),
-        Some(host) => host.body_in_rebuild(alloc, place, logs, to),
+        Some(host) => host.body_in_rebuild(alloc, place, retired, to),
     }
 }
 
@@ -219,21 +228,22 @@ fn append<P: VertexProgram>(
     alloc: Global,
     hosts: &mut Vec<Option<Host<P>>>,
     logs: &mut Vec<EdgeLog>,
+    retired: &[LoggedEdge],
     place: &PlaceInRebuild,
 ) -> Result<u64, OutOfMemory>
     requires place { place.now.place < length hosts.old.items }
     requires logged { place.now.place < length logs.old.items }
-    requires ready { IfSome (get_or hosts.old.items place.now.place None) (λ h. ReadyToRebuild place.now logs.old.items h) }
+    requires ready { IfSome (get_or hosts.old.items place.now.place None) (λ h. ReadyToRebuild place.now retired.now h) }
     requires committed { IsAllCommitted (log_at logs.old.items place.now.place) }
-    ensures bytes { (h : Held P.Value P.Acc) → get_or hosts.old.items place.now.place None ≡ Some h → IfOk result (λ bytes. bytes ≡ size_of (appended_by place.now logs.old.items h)) }
-    ensures logs { (h : Held P.Value P.Acc) → get_or hosts.old.items place.now.place None ≡ Some h → OnOk result (logs.new.items ≡ set logs.old.items place.now.place (with_records (appended_by place.now logs.old.items h) (log_at logs.old.items place.now.place))) }
+    ensures bytes { (h : Held P.Value P.Acc) → get_or hosts.old.items place.now.place None ≡ Some h → IfOk result (λ bytes. bytes ≡ size_of (appended_by place.now retired.now h)) }
+    ensures logs { (h : Held P.Value P.Acc) → get_or hosts.old.items place.now.place None ≡ Some h → OnOk result (logs.new.items ≡ set logs.old.items place.now.place (with_records (appended_by place.now retired.now h) (log_at logs.old.items place.now.place))) }
     ensures hosts { (h : Held P.Value P.Acc) → get_or hosts.old.items place.now.place None ≡ Some h → OnOk result (hosts.new.items ≡ set hosts.old.items place.now.place (Some (record h { appended = true }))) }
     ensures logs_kept { OnErr result (logs.new.items ≡ logs.old.items) }
     ensures hosts_kept { OnErr result (hosts.new.items ≡ hosts.old.items) }
 {
     match &mut hosts[usize::from(place.place)] {
         None => Ok(0),
-        Some(host) => host.append_in_rebuild(alloc, place, logs),
+        Some(host) => host.append_in_rebuild(alloc, place, retired, logs),
     }
 }
 

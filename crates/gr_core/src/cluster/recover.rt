@@ -41,6 +41,7 @@ impl<P: VertexProgram> Cluster<P> {
             opening,
         )?;
         self.kept = None;
+        self.retired = None;
         self.coordinator = after;
         Ok(opened(lost, opening))
     }

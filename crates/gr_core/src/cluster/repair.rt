@@ -17,6 +17,7 @@ impl<P: VertexProgram> Cluster<P> {
         ensures program { self.new.program ≡ self.old.program }
     {
         self.kept = None;
+        self.retired = None;
         repaired(self.coordinator.open_repair())
     }
 }

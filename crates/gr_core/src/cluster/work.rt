@@ -1,4 +1,4 @@
-ghost use Rattle.std.specs.Prelude.{◌≡◌, ℕ, List, IsSome, ◌<◌, ◌-◌, ◌+◌, ◌^◌, false, ◌∷◌, [], ◌++◌, length, get_or, set, option_map, None, Some, IfOk, IsOk, OnOk, OnErr, IfSome, IsSomeAnd, IsTrue, not};
+ghost use Rattle.std.specs.Prelude.{◌≡◌, ℕ, List, IsSome, ◌<◌, ◌-◌, ◌+◌, ◌^◌, false, ◌∷◌, [], ◌++◌, length, get_or, set, option_map, None, Some, IfOk, IsOk, OnOk, OnErr, IfSome, IsTrue, not};
 ghost use Rattle.gr_base.specs.Places.{without_place};
 ghost use Rattle.gr_batch.specs.Bodies.{stage_of_body};
 ghost use Rattle.gr_batch.specs.declared.outcome.Outcome.TheVariants as outcome;
@@ -16,7 +16,7 @@ ghost use Rattle.gr_cluster.specs.Work.{installed_host, adopted_host, sent_host,
 ghost use Rattle.gr_cluster.specs.Step.{step};
 ghost use Rattle.gr_core.specs.declared.turn.Turn.TheVariants as turn;
 ghost use Rattle.gr_round.specs.Kept.{takes_targets};
-ghost use Rattle.gr_core.specs.Targets.{TargetsFit, AreKept, StandAsBefore, targets_of};
+ghost use Rattle.gr_core.specs.Targets.{TargetsFit, AreKept, AreKeptFor, StandAsBefore};
 ghost use Rattle.gr_core.specs.Steps.{next_of, answer_of, acted_host, takes_memory};
 ghost use Rattle.gr_core.specs.Turns.{turn_of};
 ghost use Rattle.gr_core.specs.Works.{NeedsHold, MaySend, MayWork, cluster_of};
@@ -115,6 +115,7 @@ impl<P: VertexProgram> Cluster<P> {
         ensures err { OnErr result (self.new ≡ self.old) }
         ensures told { takes_memory (event.Work p) (step (P.program_of self.old.program) self.old.cluster (event.Work p)).1 ≡ false → IsOk result }
     {
+        self.retired = None;
         act_in_round(
             self.alloc,
             &mut self.hosts,
@@ -185,19 +186,27 @@ fn act_in_round<P: VertexProgram>(
 ) -> Result<Outcome<P::Value, P::Acc>, OutOfMemory>
     requires place { p < length hosts.old.items }
     requires few { p < 64 }
-    requires may { (h : Held P.Value P.Acc) → get_or hosts.old.items p None ≡ Some h → MayWork (P.program_of program.now) coordinator.old p h }
+    requires may { (h : Held P.Value P.Acc) → get_or hosts.old.items p None ≡ Some h
+        → MayWork (P.program_of program.now) coordinator.old p h }
     requires up { IsSome (get_or hosts.old.items p None) }
     requires room { length flight.old < 2 ^ 32 - 1 }
     requires serial { serial.old < 2 ^ 64 - 1 }
-    requires targets { TargetsFit (P.program_of program.now) coordinator.old.epoch (parties coordinator.old) hosts.old.items kept.old }
-    ensures targets { TargetsFit (P.program_of program.now) coordinator.old.epoch (parties coordinator.old) hosts.old.items kept.new }
+    requires targets { TargetsFit (P.program_of program.now) coordinator.old.epoch (parties coordinator.old)
+        hosts.old.items kept.old }
+    ensures targets { TargetsFit (P.program_of program.now) coordinator.old.epoch (parties coordinator.old)
+        hosts.old.items kept.new }
     ensures stand { StandAsBefore hosts.old.items hosts.new.items }
     ensures epoch { coordinator.new.epoch ≡ coordinator.old.epoch }
     ensures parties { parties coordinator.new ≡ parties coordinator.old }
-    ensures ok { (logs : List Log) (places losses : ℕ) (h : Held P.Value P.Acc) → get_or hosts.old.items p None ≡ Some h
-        → IfOk result (λ outcome. (cluster_of hosts.new.items logs flight.new serial.new coordinator.new places losses theta, outcome)
-        ≡ worked (P.program_of program.now) (cluster_of hosts.old.items logs flight.old serial.old coordinator.old places losses theta) p h (todo coordinator.old p h)) }
-    ensures told { (h : Held P.Value P.Acc) → get_or hosts.old.items p None ≡ Some h → IsTrue (is_told (todo coordinator.old p h)) → IsOk result }
+    ensures ok { (logs : List Log) (places losses : ℕ) (h : Held P.Value P.Acc)
+        → get_or hosts.old.items p None ≡ Some h
+        → IfOk result (λ outcome.
+        (cluster_of hosts.new.items logs flight.new serial.new coordinator.new places losses theta, outcome)
+        ≡ worked (P.program_of program.now)
+        (cluster_of hosts.old.items logs flight.old serial.old coordinator.old places losses theta)
+        p h (todo coordinator.old p h)) }
+    ensures told { (h : Held P.Value P.Acc) → get_or hosts.old.items p None ≡ Some h
+        → IsTrue (is_told (todo coordinator.old p h)) → IsOk result }
     ensures hosts_kept { OnErr result (hosts.new.items ≡ hosts.old.items) }
     ensures flight_kept { OnErr result (flight.new ≡ flight.old) }
     ensures serial_kept { OnErr result (serial.new ≡ serial.old) }
@@ -279,7 +288,8 @@ fn keep_targets<P: VertexProgram>(
     requires targets { TargetsFit (P.program_of program.now) view.now.epoch view.now.parties hosts.now kept.old }
     ensures targets { TargetsFit (P.program_of program.now) view.now.epoch view.now.parties hosts.now kept.new }
     ensures kept { OnOk result (AreKept (P.program_of program.now) view.now p hosts.now kept.new) }
-    ensures ok { (h : Held P.Value P.Acc) → get_or hosts.now p None ≡ Some h → takes_targets h.stage (next_of p view.now h) ≡ false → IsOk result }
+    ensures ok { (h : Held P.Value P.Acc) → get_or hosts.now p None ≡ Some h
+        → takes_targets h.stage (next_of p view.now h) ≡ false → IsOk result }
 {
     let Some(host) = &hosts[usize::from(p)] else {
         return Ok(());
@@ -306,10 +316,14 @@ fn act<P: VertexProgram>(
     requires place { p < length hosts.old.items }
     requires needs { IfSome (get_or hosts.old.items p None) (λ h. NeedsHold (P.program_of program.now) p view.now h) }
     requires kept { AreKept (P.program_of program.now) view.now p hosts.old.items kept.now }
-    ensures answer { (h : Held P.Value P.Acc) → get_or hosts.old.items p None ≡ Some h → IfOk result (λ act. act ≡ answer_of (P.program_of program.now) p view.now h (next_of p view.now h)) }
-    ensures hosts { (h : Held P.Value P.Acc) → get_or hosts.old.items p None ≡ Some h → OnOk result (hosts.new.items ≡ set hosts.old.items p (Some (acted_host (P.program_of program.now) p view.now h (next_of p view.now h)))) }
+    ensures answer { (h : Held P.Value P.Acc) → get_or hosts.old.items p None ≡ Some h
+        → IfOk result (λ act. act ≡ answer_of (P.program_of program.now) p view.now h (next_of p view.now h)) }
+    ensures hosts { (h : Held P.Value P.Acc) → get_or hosts.old.items p None ≡ Some h
+        → OnOk result (hosts.new.items
+        ≡ set hosts.old.items p (Some (acted_host (P.program_of program.now) p view.now h (next_of p view.now h)))) }
     ensures stand { StandAsBefore hosts.old.items hosts.new.items }
-    ensures told { (h : Held P.Value P.Acc) → get_or hosts.old.items p None ≡ Some h → IsTrue (is_told (next_of p view.now h)) → IsOk result }
+    ensures told { (h : Held P.Value P.Acc) → get_or hosts.old.items p None ≡ Some h
+        → IsTrue (is_told (next_of p view.now h)) → IsOk result }
     ensures err { OnErr result (hosts.new.items ≡ hosts.old.items) }
 {
     match &mut hosts[usize::from(p)] {
@@ -328,9 +342,11 @@ fn act_with<P: VertexProgram>(
     program: &P,
 ) -> Result<Act<P::Value, P::Acc>, OutOfMemory>
     requires needs { NeedsHold (P.program_of program.now) p view.now host.old }
-    requires kept { IsTrue (takes_targets host.old.stage (next_of p view.now host.old)) → IsSomeAnd kept.now (λ k. k.targets ≡ targets_of (P.program_of program.now) view.now.epoch view.now.parties p host.old) }
-    ensures answer { IfOk result (λ act. act ≡ answer_of (P.program_of program.now) p view.now host.old (next_of p view.now host.old)) }
-    ensures host { OnOk result (host.new ≡ acted_host (P.program_of program.now) p view.now host.old (next_of p view.now host.old)) }
+    requires kept { AreKeptFor (P.program_of program.now) view.now p host.old kept.now }
+    ensures answer { IfOk result (λ act. act
+        ≡ answer_of (P.program_of program.now) p view.now host.old (next_of p view.now host.old)) }
+    ensures host { OnOk result (host.new
+        ≡ acted_host (P.program_of program.now) p view.now host.old (next_of p view.now host.old)) }
     ensures told { IsTrue (is_told (next_of p view.now host.old)) → IsOk result }
     ensures err { OnErr result (host.new ≡ host.old) }
 {

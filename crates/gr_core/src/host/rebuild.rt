@@ -14,9 +14,9 @@ use crate::host::Host;
 use gr_base::{OutOfMemory, PlaceSet};
 use gr_batch::{Body, Stage};
 use gr_log::EdgeLog;
-use gr_migrate::taken_edges;
+use gr_migrate::{LoggedEdge, asks, taken_edges};
 use gr_program::VertexProgram;
-use gr_rebuild::{PlaceInRebuild, ask_to, granted, granted_to, record, stage};
+use gr_rebuild::{PlaceInRebuild, granted, granted_to, record, stage};
 use gr_round::{Step, due_count, is_end};
 use std::alloc::Global;
 
@@ -36,17 +36,17 @@ impl<P: VertexProgram> Host<P> {
         &mut self,
         alloc: Global,
         place: &PlaceInRebuild,
-        logs: &[EdgeLog],
+        retired: &[LoggedEdge],
     ) -> Result<Stage, OutOfMemory>
-        requires ready { ReadyToRebuild place.now logs.now self.old }
+        requires ready { ReadyToRebuild place.now retired.now self.old }
         requires fresh { self.old.computed ≡ false }
         ensures stage { IfOk result (λ stage. stage ≡ self.old.stage) }
-        ensures host { OnOk result (self.new ≡ computed_host place.now.others (rows_after place.now logs.now self.old self.old.stage) (arcs_after place.now logs.now self.old self.old.stage) self.old) }
+        ensures host { OnOk result (self.new ≡ computed_host place.now.others (rows_after place.now retired.now self.old self.old.stage) (arcs_after place.now retired.now self.old self.old.stage) self.old) }
         ensures err { OnErr result (self.new ≡ self.old) }
     {
         let stage = self.round.stage();
         if is_end(stage) {
-            self.stage_in_rebuild(alloc, place, logs)?;
+            self.stage_in_rebuild(alloc, place, retired)?;
         }
         self.round.note_computed(place.others);
         Ok(stage)
@@ -57,15 +57,15 @@ impl<P: VertexProgram> Host<P> {
         &mut self,
         alloc: Global,
         place: &PlaceInRebuild,
-        logs: &[EdgeLog],
+        retired: &[LoggedEdge],
     ) -> Result<(), OutOfMemory>
-        requires ready { ReadyToRebuild place.now logs.now self.old }
+        requires ready { ReadyToRebuild place.now retired.now self.old }
         requires fresh { self.old.computed ≡ false }
-        ensures host { OnOk result (self.new ≡ record self.old { pending = rows_after place.now logs.now self.old Stage.End; pending_arcs = arcs_after place.now logs.now self.old Stage.End }) }
+        ensures host { OnOk result (self.new ≡ record self.old { pending = rows_after place.now retired.now self.old Stage.End; pending_arcs = arcs_after place.now retired.now self.old Stage.End }) }
         ensures err { OnErr result (self.new ≡ self.old) }
     {
         let granted = granted(alloc, place, &self.rows, &self.inbox)?;
-        let taken = taken_edges(alloc, place.place, logs, &place.view)?;
+        let taken = taken_edges(alloc, place.place, retired, &place.view)?;
         stage(
             alloc,
             &mut self.rows,
@@ -80,15 +80,15 @@ impl<P: VertexProgram> Host<P> {
         &self,
         alloc: Global,
         place: &PlaceInRebuild,
-        logs: &[EdgeLog],
+        retired: &[LoggedEdge],
         to: u8,
     ) -> Result<Body<P::Value, P::Acc>, OutOfMemory>
-        requires ready { ReadyToRebuild place.now logs.now self.now }
-        ensures { IfOk result (λ body. body ≡ body_after place.now logs.now self.now to self.now.stage) }
+        requires ready { ReadyToRebuild place.now retired.now self.now }
+        ensures { IfOk result (λ body. body ≡ body_after place.now retired.now self.now to self.now.stage) }
     {
         match self.round.stage() {
             Stage::Ask => {
-                let vertices = ask_to(alloc, place.place, &self.rows, logs, &place.view, to)?;
+                let vertices = asks(alloc, place.place, &self.rows, retired, &place.view, to)?;
                 Ok(Body::Ask(vertices))
             }
             _ => {
@@ -103,19 +103,20 @@ impl<P: VertexProgram> Host<P> {
         &mut self,
         alloc: Global,
         place: &PlaceInRebuild,
+        retired: &[LoggedEdge],
         logs: &mut Vec<EdgeLog>,
     ) -> Result<u64, OutOfMemory>
-        requires ready { ReadyToRebuild place.now logs.old.items self.old }
+        requires ready { ReadyToRebuild place.now retired.now self.old }
         requires place { place.now.place < length logs.old.items }
         requires committed { IsAllCommitted (log_at logs.old.items place.now.place) }
-        ensures bytes { IfOk result (λ bytes. bytes ≡ size_of (appended_by place.now logs.old.items self.old)) }
-        ensures logs { OnOk result (logs.new.items ≡ set logs.old.items place.now.place (with_records (appended_by place.now logs.old.items self.old) (log_at logs.old.items place.now.place))) }
+        ensures bytes { IfOk result (λ bytes. bytes ≡ size_of (appended_by place.now retired.now self.old)) }
+        ensures logs { OnOk result (logs.new.items ≡ set logs.old.items place.now.place (with_records (appended_by place.now retired.now self.old) (log_at logs.old.items place.now.place))) }
         ensures host { OnOk result (self.new ≡ record self.old { appended = true }) }
         ensures logs_kept { OnErr result (logs.new.items ≡ logs.old.items) }
         ensures host_kept { OnErr result (self.new ≡ self.old) }
     {
         let granted = granted(alloc, place, &self.rows, &self.inbox)?;
-        let taken = taken_edges(alloc, place.place, logs.as_slice(), &place.view)?;
+        let taken = taken_edges(alloc, place.place, retired, &place.view)?;
         let log = &mut logs[usize::from(place.place)];
         let bytes = record(log, granted.as_slice(), taken.as_slice())?;
         self.appended = true;

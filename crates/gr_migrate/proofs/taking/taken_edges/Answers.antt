@@ -1,37 +1,53 @@
-use Rattle.std.proofs.Common.{◌≡◌, ◌∙◌, ◌++◌, List, [], ap, sym, subst, map, arith}
-use Rattle.std.specs.List.{All, filter}
+use Rattle.std.proofs.Common.{◌∙◌, ◌++◌, ◌∷◌, [], List, ap, sym, subst, map, take, eq-eqb, ne_eqb}
+use Rattle.std.specs.List.{filter}
+use Rattle.std.proofs.lemmas.List.{take_all}
 use Rattle.std.proofs.lemmas.Result.{IfOk-weaker}
 use Rattle.gr_base.specs.declared.records.NumberedEdge.{NumberedEdge}
-use Rattle.gr_copies.specs.Granter.{is_retiring}
 use Rattle.gr_log.specs.Directory.{with_items}
 use Rattle.gr_rules.specs.Taken.{Ends, goes_to}
-use Rattle.gr_migrate.specs.Ends.{KnowsMasters}
-use Rattle.gr_migrate.proofs.Known.{ends-known}
-use Rattle.gr_migrate.proofs.Placed.{parts, parts-with, parts-same}
-use Rattle.gr_migrate.proofs.TakenParts.{taken_at, taken_edges-parts}
+use Rattle.gr_migrate.specs.Asks.{taken_among}
+use Rattle.gr_migrate.specs.Ends.{KnowsMasters, place_after}
+use Rattle.gr_migrate.proofs.Fronts.{front-more}
+use Rattle.gr_migrate.proofs.Picked.{map-filter-more, filter-same}
+use Rattle.gr_migrate.proofs.RetiredParts.{taken-retired}
 use Rattle.gr_migrate.proofs.taking.taken_edges.Goals as goal
-use Rattle.gr_migrate.proofs.taking.taken_edges.Goals.{then-is_retiring+in_ok-edges+in_ok-add_taken, else-is_retiring}
+use Rattle.gr_migrate.proofs.taking.taken_edges.Goals.{then-place_after-me+in_ok-push, else-place_after-me}
 
-pub add_taken-requires : goal.add_taken-requires
-add_taken-requires c =
-    subst (All KnowsMasters) (sym (c.as_slice.ensures ∙ c.in_ok-edges.ensures))
-    (ends-known c.args.view.now c.args.logs.now c.loop-r.r c.requires.masters c.loop-r-test.true (sym c.is_retiring.ensures ∙ c.if-is_retiring.true))
+pub place_after-requires-clause-src : goal.place_after-requires-clause-src
+place_after-requires-clause-src c =
+    let known : KnowsMasters c.edge-item.result = subst KnowsMasters (sym c.edge-item.is) (c.requires.masters c.loop-edge.edge-index c.edge-item.result c.loop-edge-test.true) in known.src
 
-pub loop-r-preserved : goal.loop-r-preserved
-loop-r-preserved c =
-    let w = c.args.view.now in
-    let part = taken_at w c.args.logs.now c.args.me in
-    elim c.if-is_retiring.branch [
-      | then-is_retiring+in_ok-edges+in_ok-add_taken k ↦
-          k.taken-is ∙ (k.in_ok-add_taken.ensures ∙ (ap (λ (es : List Ends). c.loop-r.taken ++ map (λ (x : Ends). x.arc) (filter (goes_to w c.args.me) es)) (k.as_slice.ensures ∙ k.in_ok-edges.ensures)
-          ∙ (ap (λ (l : List NumberedEdge). l ++ part c.loop-r.r) c.loop-r.invariant ∙ sym (parts-with (is_retiring w) part c.loop-r.r (sym c.is_retiring.ensures ∙ k.if-is_retiring.true)))))
-      | else-is_retiring k ↦
-          k.taken-is ∙ (c.loop-r.invariant ∙ sym (parts-same (is_retiring w) part c.loop-r.r (sym c.is_retiring.ensures ∙ k.if-is_retiring.false)))
+pub place_after-requires-clause-dst : goal.place_after-requires-clause-dst
+place_after-requires-clause-dst c =
+    let known : KnowsMasters c.edge-item.result = subst KnowsMasters (sym c.edge-item.is) (c.requires.masters c.loop-edge.edge-index c.edge-item.result c.loop-edge-test.true) in known.dst
+
+pub loop-edge-preserved : goal.loop-edge-preserved
+loop-edge-preserved c =
+    let xs = c.args.retired.now in
+    let i = c.loop-edge.edge-index in
+    let x = c.edge-item.result in
+    let arc = λ (y : Ends). y.arc in
+    let test = goes_to c.args.view.now c.args.me in
+    let more = ap (λ l. map arc (filter test l)) (front-more xs i x c.loop-edge-test.true c.edge-item.is) in
+    elim c.if-place_after-me.branch [
+      | then-place_after-me+in_ok-push w ↦
+          let on = eq-eqb (place_after c.args.view.now x) c.args.me (sym c.place_after.ensures ∙ w.if-place_after-me.true) in
+          w.taken-is ∙ (w.in_ok-push.ensures.ok ∙ (ap (λ (a : NumberedEdge). c.loop-edge.taken ++ a ∷ []) (ap arc c.edge.view_is) ∙ (ap (λ (l : List NumberedEdge). l ++ x.arc ∷ []) c.loop-edge.invariant
+          ∙ (sym (map-filter-more test arc (take i xs) x on) ∙ sym more))))
+      | else-place_after-me w ↦
+          let off = ne_eqb (place_after c.args.view.now x) c.args.me (λ e. w.if-place_after-me.false (c.place_after.ensures ∙ e)) in
+          w.taken-is ∙ (c.loop-edge.invariant ∙ (ap (map arc) (sym (filter-same test (take i xs) x off)) ∙ sym more))
     ]
 
 pub returns-clause-edges : goal.returns-clause-edges
+unfolding taken_among
 returns-clause-edges c =
+    let number = λ (a : NumberedEdge). a.number in
+    let xs = c.args.retired.now in
+    let all = c.as_slice.ensures ∙ (c.loop-edge.invariant ∙ ap (λ l. map (λ (y : Ends). y.arc) (filter (goes_to c.args.view.now c.args.me) l)) (take_all c.loop-edge.edge-index xs c.loop-edge-test.false)) in
+    IfOk-weaker c.last_of_each.result _ _ (λ es e. e ∙ ap (λ (l : List NumberedEdge). with_items number l []) all) c.last_of_each.ensures.last
+
+pub returns-clause-of_logs : goal.returns-clause-of_logs
+returns-clause-of_logs c =
     let w = c.args.view.now in
-    let end : c.loop-r.r ≡ w.places = omega arith in
-    let all = c.as_slice-2.ensures ∙ (c.loop-r.invariant ∙ ap (parts (is_retiring w) (taken_at w c.args.logs.now c.args.me)) end) in
-    IfOk-weaker c.last_of_each.result _ _ (λ es e. e ∙ (ap (λ (xs : List NumberedEdge). with_items (λ (a : NumberedEdge). a.number) xs []) all ∙ taken_edges-parts w c.args.logs.now c.args.me)) c.last_of_each.ensures.last
+    IfOk-weaker c.last_of_each.result _ _ (λ es e logs same. e ∙ (ap (taken_among w c.args.me) same ∙ taken-retired w logs c.args.me)) (returns-clause-edges c)

@@ -1,8 +1,7 @@
-use Rattle.std.proofs.Common.{◌≡◌}
-use Rattle.gr_copies.specs.Granter.{is_retiring}
-use Rattle.gr_migrate.proofs.Placed.{parts}
-use Rattle.gr_migrate.proofs.TakenParts.{taken_at}
+use Rattle.std.proofs.Common.{◌≡◌, map, take}
+use Rattle.std.specs.List.{filter}
+use Rattle.gr_rules.specs.Taken.{goes_to}
 use Rattle.gr_migrate.proofs.taking.taken_edges.Given as goal
 
-abbrev pub invariant-loop-r : goal.invariant-loop-r
-invariant-loop-r l = l.taken ≡ parts (is_retiring l.view) (taken_at l.view l.logs l.me) l.r
+abbrev pub invariant-loop-edge : goal.invariant-loop-edge
+invariant-loop-edge l = l.taken ≡ map (λ x. x.arc) (filter (goes_to l.view l.me) (take l.edge-index l.retired))

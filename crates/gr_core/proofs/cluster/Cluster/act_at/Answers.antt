@@ -41,6 +41,7 @@ invariant_of-self g c =
     (sym (work-step P k p over T.at (todo k.coordinator p T.at) T.is refl)) (a.ensures.ok s.logs.items s.places s.losses T.at T.is) in
     let fit = fit-stand P s.coordinator.epoch (parties s.coordinator) s.hosts.items a.new.hosts.items a.new.kept a.ensures.stand a.ensures.targets in
     record {
+      retired = tt;
       targets = subst (λ n. TargetsFit P n (parties a.new.coordinator) a.new.hosts.items a.new.kept) (sym a.ensures.epoch)
           (subst (λ ps. TargetsFit P s.coordinator.epoch ps a.new.hosts.items a.new.kept) (sym a.ensures.parties) fit);
       agrees = keeps-stepped P k (record k { hosts = a.new.hosts.items; flight = a.new.flight; serial = a.new.serial; coordinator = a.new.coordinator }) (step P k (event.Work p)) a.result ok

@@ -29,6 +29,7 @@ invariant_of-self g c =
     let over : is_over k.coordinator.mode ≡ false = ap (λ x. is_over x.cluster.coordinator.mode) c.self.view_is ∙ c.requires in
     let fit = fit-delivered P s.coordinator.epoch (parties s.coordinator) s.hosts.items hs (slice_get s.flight c.args.i) s.kept c.deliver_from.ensures.others c.self.invariant.targets in
     record {
+      retired = c.self.invariant.retired;
       targets = subst (TargetsFit P s.coordinator.epoch (parties s.coordinator) hs) (sym c.forget_receiver.ensures) fit;
       agrees = keeps-stepped P k (record k { hosts = hs; flight = fl }) (step P k (event.Deliver c.args.i)) r
           (IfOk-delivered P k c.args.i r hs fl over c.deliver_from.ensures.ok)

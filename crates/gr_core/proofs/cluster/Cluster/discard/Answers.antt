@@ -40,7 +40,7 @@ invariant_of-self g c =
     let logs = c.send_back.ensures.logs ∙ ap (λ qs. changed_at qs (λ _. cut_log) k.logs) back in
     let is = discard-step P k over c.self.invariant.agrees.holds.committed.places.none_reborn ps x c.send_back.new.hosts.items c.send_back.new.logs.items seen c.discard-epoch.ensures.decision hosts logs in
     let told = ap (λ o. (record k { hosts = c.send_back.new.hosts.items; logs = c.send_back.new.logs.items; coordinator = c.discard-epoch.new.self }, o)) c.discarded.ensures ∙ is in
-    record { agrees = subst (λ y. Agrees P y.0) (sym told) (keeps P (g.met.P.VertexProgram.laws s.program) k c.self.invariant.agrees event.Discard tt); targets = tt }
+    record { agrees = subst (λ y. Agrees P y.0) (sym told) (keeps P (g.met.P.VertexProgram.laws s.program) k c.self.invariant.agrees event.Discard tt); targets = tt; retired = tt }
 
 pub returns-clause-step : goal.returns-clause-step
 returns-clause-step g c =

@@ -22,6 +22,7 @@ invariant_of-result g c =
     let coordinator : c.new-2.result ≡ first_coordinator s.places s.spares s.limit (nat_lt 0 (length vs)) = c.new-2.ensures ∙ ap (λ n. first_coordinator s.places s.spares s.limit (nat_lt 0 n)) (c.vertex_count-any_vertex.ensures.count ∙ sym (length-map xs id_of)) in
     record {
       targets = tt;
+      retired = tt;
       agrees = subst (Agrees P) (sym ((λ i. record {
         hosts = c.in_ok-hosts.ensures.hosts i;
         logs = c.in_ok-hosts.ensures.logs i;

@@ -14,7 +14,7 @@ invariant_of-self g c =
     let k : Cluster g.row.P-Value.Denot g.row.P-Acc.Denot = record { hosts = s.hosts.items; logs = s.logs.items; flight = s.flight; serial = s.serial; coordinator = s.coordinator; places = s.places; losses = s.losses; theta = s.theta } in
     let over : is_over k.coordinator.mode ≡ false = ap (λ x. is_over x.cluster.coordinator.mode) c.self.view_is ∙ c.requires.going in
     let is = repair-step P k over (c.open_repair.new.self, c.open_repair.result) c.open_repair.ensures.decision in
-    record { agrees = subst (λ x. Agrees P x.0) (sym is) (keeps P (g.met.P.VertexProgram.laws s.program) k c.self.invariant.agrees event.Repair tt); targets = tt }
+    record { agrees = subst (λ x. Agrees P x.0) (sym is) (keeps P (g.met.P.VertexProgram.laws s.program) k c.self.invariant.agrees event.Repair tt); targets = tt; retired = tt }
 
 pub returns-clause-step : goal.returns-clause-step
 returns-clause-step g c =

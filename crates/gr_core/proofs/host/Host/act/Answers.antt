@@ -1,12 +1,10 @@
 use Rattle.std.proofs.Common.{sym, subst}
-use Rattle.gr_base.specs.Places.{without_place}
-use Rattle.gr_round.specs.Needs.{GathersFit, UpdatesFit}
+use Rattle.gr_core.specs.Targets.{AreGiven}
+use Rattle.gr_core.specs.Works.{NeedsHold}
 use Rattle.gr_core.proofs.host.Host.act.Goals as goal
 
-pub act-requires-clause-gathers : goal.act-requires-clause-gathers
-act-requires-clause-gathers g c =
-    subst (λ h. GathersFit h.inbox c.args.view.now.epoch (without_place c.args.view.now.parties c.args.me) (g.P.VertexProgram.program_of c.args.program.now)) (sym c.self.view_is) c.requires.gathers
+pub act-requires-clause-needs : goal.act-requires-clause-needs
+act-requires-clause-needs g c = subst (NeedsHold (g.P.VertexProgram.program_of c.args.program.now) c.args.me c.args.view.now) (sym c.self.view_is) c.requires.needs
 
-pub act-requires-clause-updates : goal.act-requires-clause-updates
-act-requires-clause-updates g c =
-    subst (λ h. UpdatesFit h.inbox c.args.view.now.epoch (without_place c.args.view.now.parties c.args.me) h.stable) (sym c.self.view_is) c.requires.updates
+pub act-requires-clause-targets : goal.act-requires-clause-targets
+act-requires-clause-targets g c = subst (λ h. AreGiven (g.P.VertexProgram.program_of c.args.program.now) c.args.view.now c.args.me h c.args.targets.now) (sym c.self.view_is) c.requires.targets
