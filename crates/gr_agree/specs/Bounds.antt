@@ -18,9 +18,8 @@ use Rattle.gr_cluster.specs.Step.{step}
 use Rattle.gr_cluster.specs.Canonical.{next_canonical}
 use Rattle.gr_cluster.specs.Left.{left}
 use Rattle.gr_cluster.specs.Runs.{Position, Played, position_after, steps_of, IsWhole, IsRun}
-use Rattle.gr_agree.specs.FirstTruth.{IsGraph, IsSetting}
+use Rattle.gr_agree.specs.Accepted.{IsGraph, IsSetting, NamesPlacesAt}
 use Rattle.gr_agree.specs.Agree.{Invariant}
-use Rattle.gr_agree.specs.Headline.{NamesPlacesAt}
 
 -- every schedule ends: some number of steps leaves none
 abbrev pub EveryRunEnds : (V A : Type 0) → Type 0

@@ -1,5 +1,5 @@
 -- What is to be proved of every whole run from load.
-use Rattle.std.specs.Prelude.{ℕ, ◌≡◌, ◌≢◌, ◌⊎◌, false, not, IsTrue, List, [], ◌∷◌, ◌++◌, map, ⊤}
+use Rattle.std.specs.Prelude.{ℕ, ◌≡◌, ◌≢◌, ◌⊎◌, false, not, IsTrue, List, [], ◌∷◌, ◌++◌, map}
 use Rattle.std.specs.List.{filter, list_any, AllByRecursion as Each}
 use Rattle.gr_base.specs.declared.records.Edge.{Edge}
 use Rattle.gr_base.specs.Rising.{has, includes}
@@ -16,13 +16,7 @@ use Rattle.gr_cluster.specs.Runs.{Played, IsRun}
 use Rattle.gr_cluster.specs.Budget.{IsWithinBudget}
 use Rattle.gr_cluster.specs.Ending.{ending_of, ending_text}
 use Rattle.gr_report.specs.Endings.{lost_text, unfinished_text}
-use Rattle.gr_agree.specs.FirstTruth.{IsGraph, IsSetting}
-use Rattle.gr_agree.specs.Laws.{NamesPlaces}
-
--- the places that the lines of a schedule name are sets
-abbrev pub NamesPlacesAt : Line → Type 0
-NamesPlacesAt (line.Step e) = NamesPlaces e
-NamesPlacesAt _ = ⊤
+use Rattle.gr_agree.specs.Accepted.{IsGraph, IsSetting, NamesPlacesAt}
 
 -- a whole run of a lawful program on an accepted graph, job and schedule, which ends with this cluster
 pub record IsRunFromLoad {V A : Type 0} (P : Program V A) (s : Setting) (es : List Edge) (vs : List ℕ) (ls : List Line) (played : List (Played V A)) (end : Cluster V A) : Type 0 where

@@ -1,9 +1,8 @@
 -- The laws of the invariant: what each event makes of a cluster that agrees with a committed state. Every event falls under one of five.
-use Rattle.std.specs.Prelude.{ℕ, ◌≡◌, ◌≢◌, ◌⊎◌, Bool, true, false, not, ◌&&◌, ◌==◌, IsTrue, List, [], Option, option_map, ⊤}
+use Rattle.std.specs.Prelude.{ℕ, ◌≡◌, ◌≢◌, ◌⊎◌, Bool, true, false, not, ◌&&◌, ◌==◌, IsTrue, List, [], Option, option_map}
 use Rattle.gr_base.specs.declared.records.Edge.{Edge}
 use Rattle.gr_base.specs.declared.records.NumberedEdge.{NumberedEdge}
 use Rattle.gr_base.specs.Rising.{has}
-use Rattle.gr_base.specs.Places.{IsPlaces}
 use Rattle.gr_program.specs.declared.copy.VertexCopy.{VertexCopy}
 use Rattle.gr_program.specs.Program.{Program, ProgramLaws}
 use Rattle.gr_batch.specs.declared.outcome.Outcome.{Outcome}
@@ -20,13 +19,9 @@ use Rattle.gr_cluster.specs.Runs.{is_commit}
 use Rattle.gr_agree.specs.Truth.{Truth}
 use Rattle.gr_agree.specs.TrueRound.{next}
 use Rattle.gr_agree.specs.Rebuilt.{rebuilt}
-use Rattle.gr_agree.specs.FirstTruth.{IsGraph, IsSetting, first_truth}
+use Rattle.gr_agree.specs.Accepted.{IsGraph, IsSetting, NamesPlaces}
+use Rattle.gr_agree.specs.FirstTruth.{first_truth}
 use Rattle.gr_agree.specs.Agree.{Agree, Invariant}
-
--- the places that an event names are a set
-abbrev pub NamesPlaces : Event → Type 0
-NamesPlaces (event.Recover ps) = IsPlaces ps
-NamesPlaces _ = ⊤
 
 abbrev pub is_crash : {V A : Type 0} → Outcome V A → Bool
 is_crash (outcome.Crashed n) = true

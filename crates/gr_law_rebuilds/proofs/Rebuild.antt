@@ -9,10 +9,8 @@ pub mod Granted
 pub mod Parties
 pub mod Stages
 pub mod AtPlace
-pub mod Line
 pub mod InEpoch
 pub mod Todo
-pub mod Install
 pub mod Compute
 pub mod Send
 pub mod Counting

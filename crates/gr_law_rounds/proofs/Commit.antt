@@ -3,3 +3,4 @@ pub mod Commit
 pub mod Last
 pub mod Next
 pub mod Verdicts
+pub mod Open

@@ -4,7 +4,6 @@ pub mod Found
 pub mod Results
 pub mod Directory
 pub mod Ends
-pub mod Losses
 pub mod Quiet
 pub mod Serving
 pub mod Budget

@@ -12,5 +12,4 @@ pub mod Same
 pub mod Stages
 pub mod Sums
 pub mod Told
-pub mod Unruled
 pub mod Work

@@ -1,3 +1,4 @@
+pub mod Lines
 pub mod Finish
 pub mod Plain
 pub mod Results

@@ -8,8 +8,7 @@ use Rattle.gr_sched.specs.declared.event.Line.{Line}
 use Rattle.gr_sched.specs.declared.event.Line.TheVariants as line
 use Rattle.gr_cluster.specs.Load.{Setting, load}
 use Rattle.gr_cluster.specs.Budget.{IsWithinBudget}
-use Rattle.gr_agree.specs.FirstTruth.{IsGraph, IsSetting}
-use Rattle.gr_agree.specs.Headline.{NamesPlacesAt}
+use Rattle.gr_agree.specs.Accepted.{IsGraph, IsSetting, NamesPlacesAt}
 
 -- the line of a crash
 abbrev pub is_crash_line : Line → Bool

@@ -8,8 +8,7 @@ use Rattle.gr_cluster.specs.Tables.{Cluster}
 use Rattle.gr_cluster.specs.Load.{Setting, load}
 use Rattle.gr_cluster.specs.GraphIn.{graph_of, graph_in}
 use Rattle.gr_cluster.specs.Runs.{position_after}
-use Rattle.gr_agree.specs.FirstTruth.{IsGraph, IsSetting}
-use Rattle.gr_agree.specs.Headline.{NamesPlacesAt}
+use Rattle.gr_agree.specs.Accepted.{IsGraph, IsSetting, NamesPlacesAt}
 use Rattle.gr_law_runs.specs.Events.{AgreesIn}
 
 -- it agrees with a committed state of the graph, its logs say the graph, and the limit of rounds stays

@@ -9,7 +9,7 @@ use Rattle.gr_cluster.specs.Tables.{Cluster}
 use Rattle.gr_cluster.specs.Step.{step}
 use Rattle.gr_agree.specs.Truth.{Truth, edge_list}
 use Rattle.gr_agree.specs.Agree.{Agree}
-use Rattle.gr_agree.specs.Laws.{NamesPlaces}
+use Rattle.gr_agree.specs.Accepted.{NamesPlaces}
 
 -- a cluster agrees with a committed state of this graph
 pub record AgreesIn {V A : Type 0} (P : Program V A) (es : List Edge) (vs : List ℕ) (c : Cluster V A) : Type 0 where

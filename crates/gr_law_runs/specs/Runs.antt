@@ -15,7 +15,7 @@ use Rattle.gr_cluster.specs.Load.{Setting, load}
 use Rattle.gr_cluster.specs.Step.{step}
 use Rattle.gr_cluster.specs.Runs.{position_after, IsWhole}
 use Rattle.gr_cluster.specs.Ending.{results_of}
-use Rattle.gr_agree.specs.FirstTruth.{IsGraph, IsSetting}
+use Rattle.gr_agree.specs.Accepted.{IsGraph, IsSetting}
 use Rattle.gr_law_runs.specs.Undisturbed.{is_plain, is_plain_line}
 
 -- the cluster after some events

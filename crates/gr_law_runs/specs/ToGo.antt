@@ -9,7 +9,7 @@ use Rattle.gr_cluster.specs.Step.{step}
 use Rattle.gr_cluster.specs.Canonical.{next_canonical}
 use Rattle.gr_cluster.specs.ToGo.{most_left, most_added, to_go}
 use Rattle.gr_agree.specs.Agree.{Invariant}
-use Rattle.gr_agree.specs.Laws.{NamesPlaces}
+use Rattle.gr_agree.specs.Accepted.{NamesPlaces}
 
 -- what a canonical event makes of a cluster
 pub record GoesOn {V A : Type 0} (P : Program V A) (c : Cluster V A) (e : Event) : Type 0 where

@@ -8,5 +8,4 @@ pub mod Others
 pub mod Rebuild
 pub mod Repair
 pub mod Rows
-pub mod Taken
 pub mod Unstaged

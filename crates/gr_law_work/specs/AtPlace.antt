@@ -1,4 +1,4 @@
--- What a place does in a rebuild, by what it goes by: its number, the epoch, the other parties and the view.
+-- What a place does in a rebuild, by what it goes by (its number, the epoch, the other parties and the view) and by the edges of places that retire.
 use Rattle.std.specs.Prelude.{ℕ, ◌≡◌, ◌≤◌, true, false, List}
 use Rattle.std.specs.List.{All}
 use Rattle.gr_base.specs.declared.records.NumberedEdge.{NumberedEdge}
@@ -6,21 +6,19 @@ use Rattle.gr_program.specs.declared.copy.VertexCopy.{VertexCopy}
 use Rattle.gr_program.specs.Program.{Program}
 use Rattle.gr_log.specs.declared.record.LogRecord.{LogRecord}
 use Rattle.gr_log.specs.Directory.{with_items}
-use Rattle.gr_log.specs.Log.{Log}
 use Rattle.gr_batch.specs.declared.stage.Stage.{Stage}
 use Rattle.gr_batch.specs.declared.stage.Stage.TheVariants as stage
 use Rattle.gr_batch.specs.declared.body.Body.{Body}
 use Rattle.gr_batch.specs.declared.body.Body.TheVariants as body
 use Rattle.gr_view.specs.Modes.{is_repair}
 use Rattle.gr_rules.specs.Rows.{entry}
-use Rattle.gr_rules.specs.Taken.{taken_edges, ask_body}
+use Rattle.gr_rules.specs.Taken.{Ends}
 use Rattle.gr_rules.specs.Grants.{wanted, records_after}
-use Rattle.gr_migrate.specs.Ends.{KnowsMaster, MastersKnown}
-use Rattle.gr_migrate.specs.Asks.{KeptOnce}
+use Rattle.gr_migrate.specs.Asks.{taken_among, asked_among}
+use Rattle.gr_migrate.specs.Ends.{KnowsMaster, KnowsMasters}
 use Rattle.gr_rebuild.specs.declared.place.PlaceInRebuild.{PlaceInRebuild}
 use Rattle.gr_rebuild.specs.Granted as all
 use Rattle.gr_rebuild.specs.Granted.{RepairReady}
-use Rattle.gr_rebuild.specs.Ending.{IsNewTo}
 use Rattle.gr_cluster.specs.Tables.{Host, Cluster, view_of}
 use Rattle.gr_cluster.specs.Todo.{others}
 
@@ -34,7 +32,7 @@ place_in P c p = record {
   view = view_of P c;
 }
 
-module _ {V A : Type 0} (w : PlaceInRebuild) (logs : List Log) (h : Host V A) where
+module _ {V A : Type 0} (w : PlaceInRebuild) (retired : List Ends) (h : Host V A) where
   -- the copies that it grants to q, those that are granted to it, and the edges that it takes over
   abbrev pub granted_to : ℕ → List (VertexCopy V)
   granted_to q = all.granted_to h.inbox w.epoch w.others w.view (wanted w.repair w.view) w.place h.stable q
@@ -43,7 +41,7 @@ module _ {V A : Type 0} (w : PlaceInRebuild) (logs : List Log) (h : Host V A) wh
   granted = all.granted h.inbox w.epoch w.others w.view (wanted w.repair w.view) w.place h.stable
 
   abbrev pub taken : List NumberedEdge
-  taken = taken_edges w.view logs w.place
+  taken = taken_among w.view w.place retired
 
   -- its pending copies and edges once a stage is computed: all is staged at the end
   abbrev pub rows_after : Stage → List (VertexCopy V)
@@ -56,20 +54,18 @@ module _ {V A : Type 0} (w : PlaceInRebuild) (logs : List Log) (h : Host V A) wh
 
   -- the body of a stage to q
   abbrev pub body_after : ℕ → Stage → Body V A
-  body_after q stage.Ask = body.Ask (ask_body w.view logs w.place h.stable q)
+  body_after q stage.Ask = body.Ask (asked_among w.view w.place h.stable q retired)
   body_after q _ = body.Grant (granted_to q)
 
   -- what it appends to its log
   abbrev pub appended_by : List LogRecord
   appended_by = records_after granted taken
 
-  -- the logs, its copies, its edges and its inbox are fit for that
+  -- these edges, its copies and its inbox are fit for that
   pub record ReadyToRebuild : Type 0 where
     pub places : w.view.places ≤ 64
-    pub masters : MastersKnown w.view logs
-    pub kept_once : KeptOnce w.view logs
+    pub masters : All KnowsMasters retired
     pub holders : All (λ k. KnowsMaster (entry k)) h.stable
     pub repair : w.repair ≡ true → RepairReady h.inbox w.epoch w.others w.view h.stable
     pub same_rows : h.computed ≡ false → h.pending ≡ h.stable
     pub same_arcs : h.computed ≡ false → h.pending_arcs ≡ h.arcs
-    pub new_edges : h.computed ≡ false → All (IsNewTo h.pending_arcs) taken

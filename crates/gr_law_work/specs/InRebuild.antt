@@ -15,15 +15,14 @@ use Rattle.gr_rules.specs.AtPlace.{due_count}
 use Rattle.gr_round.specs.Line.{is_of_rebuild}
 use Rattle.gr_round.specs.Todo.{todo_in_rebuild, AwaitsSending}
 use Rattle.gr_migrate.specs.Ends.{KnowsMaster, MastersKnown}
-use Rattle.gr_migrate.specs.Asks.{KeptOnce}
 use Rattle.gr_migrate.specs.Askers.{AreAskers}
 use Rattle.gr_rebuild.specs.Asked.{asks_in}
 use Rattle.gr_rebuild.specs.Granted.{RepairReady}
-use Rattle.gr_rebuild.specs.Ending.{IsNewTo, IsAllCommitted}
+use Rattle.gr_rebuild.specs.Ending.{IsAllCommitted}
 use Rattle.gr_cluster.specs.Tables.{Host, Cluster, host, log, view_of}
 use Rattle.gr_cluster.specs.Todo.{others, todo}
 use Rattle.gr_cluster.specs.Work.{exchange_of}
-use Rattle.gr_cluster.specs.Place.{asked_for, granted_to, granted, taken}
+use Rattle.gr_cluster.specs.Place.{asked_for, granted_to, granted}
 use Rattle.gr_agree.specs.Truth.{Truth}
 use Rattle.gr_agree.specs.Agree.{Agree}
 
@@ -49,7 +48,6 @@ pub record MayRebuild {V A : Type 0} (P : Program V A) (c : Cluster V A) (p : �
   pub places : c.places ≤ 64
   -- the logs of the places that retire
   pub masters : MastersKnown (view_of P c) c.logs
-  pub kept_once : KeptOnce (view_of P c) c.logs
   -- its copies
   pub holders : All (λ k. KnowsMaster (entry k)) h.stable
   pub ids : All HasId h.stable
@@ -61,8 +59,6 @@ pub record MayRebuild {V A : Type 0} (P : Program V A) (c : Cluster V A) (p : �
   pub repair : c.coordinator.mode ≡ mode.Repairing → MayRepair P c p h
   -- until the end is computed nothing is staged
   pub same_layers : h.computed ≡ false → (h.pending ≡ h.stable) × (h.pending_arcs ≡ h.arcs)
-  -- the edges that it takes are new to it until they are staged
-  pub new_edges : h.computed ≡ false → All (IsNewTo h.pending_arcs) (taken P c p h)
   -- each vertex that is granted to it has 32 bits
   pub granted_ids : All HasId (granted P c p h)
   -- its line: a stage that is computed and not passed is still to be sent to some party

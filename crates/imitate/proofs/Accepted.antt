@@ -17,7 +17,7 @@ use Rattle.gr_sum.specs.Laws.ReachLaws.{reach_laws}
 use Rattle.gr_min.specs.Laws.ShortestLaws.{shortest_laws}
 use Rattle.gr_min.specs.Laws.HopsLaws.{hops_laws}
 use Rattle.gr_min.specs.Laws.LabelsLaws.{labels_laws}
-use Rattle.gr_agree.specs.FirstTruth.{IsGraph, IsSetting}
+use Rattle.gr_agree.specs.Accepted.{IsGraph, IsSetting}
 use Rattle.gr_cluster.specs.Runs.{steps_of}
 use Rattle.gr_law_runs.proofs.Ends.Ends.{ends-as-it-must}
 use Rattle.imitate.specs.declared.refusal.Refusal.{Refusal}

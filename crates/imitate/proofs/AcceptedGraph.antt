@@ -26,7 +26,7 @@ use Rattle.gr_edges.specs.Vertices.{ids, vertex_of, HasEnds}
 use Rattle.gr_edges.proofs.Degrees.{ids-made}
 use Rattle.gr_edges.proofs.Ends.{ends-stand}
 use Rattle.gr_edges.proofs.Ids.{insert-lt, insert-eq, insert-gt, joined-rises}
-use Rattle.gr_agree.specs.FirstTruth.{IsGraph}
+use Rattle.gr_agree.specs.Accepted.{IsGraph}
 use Rattle.gr_lists.proofs.Each.{Each-append}
 use Rattle.gr_lists.proofs.Tests.{by_test, by_option}
 

@@ -7,7 +7,7 @@ use Rattle.gr_job.specs.declared.fault.JobFault.{JobFault}
 use Rattle.gr_job.specs.Job.{JobValues, ◌>>=◌, required, default, required_if, under, row, only_known_keys, job_of_table, job_of_document, document_of, job_of}
 use Rattle.gr_job.specs.Names.{needs_source, needs_k, needs_seeds}
 use Rattle.gr_job.specs.Kinds.{integer_in, boolean_value, program_name, integers_in}
-use Rattle.gr_agree.specs.FirstTruth.{IsSetting}
+use Rattle.gr_agree.specs.Accepted.{IsSetting}
 use Rattle.gr_lists.proofs.Tests.{by_test}
 use Rattle.imitate.specs.Running.{setting_in}
 

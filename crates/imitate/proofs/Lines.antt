@@ -18,8 +18,7 @@ use Rattle.gr_sched.specs.declared.line.Keyword.{Keyword}
 use Rattle.gr_sched.specs.declared.line.Keyword.TheVariants as keyword
 use Rattle.gr_sched.specs.Fields.{number_of, only_number, all_numbers}
 use Rattle.gr_sched.specs.Reading.{are_below, places_of, placed, is_word, bare, kept_of, crash_at, reborn_at, rebirth_of, recover_of, said_by, keyword_of, of_fields, line_of, lines_of, said, schedule_of}
-use Rattle.gr_agree.specs.Laws.{NamesPlaces}
-use Rattle.gr_agree.specs.Headline.{NamesPlacesAt}
+use Rattle.gr_agree.specs.Accepted.{NamesPlaces, NamesPlacesAt}
 use Rattle.gr_lists.proofs.Tests.{by_test}
 use Rattle.gr_lists.proofs.Each.{Each-append}
 

@@ -34,7 +34,7 @@ use Rattle.gr_cluster.specs.Runs.{Position, position_after, IsWhole}
 use Rattle.gr_cluster.specs.Ending as cluster
 use Rattle.gr_cluster.specs.Ending.{results_of}
 use Rattle.gr_play.specs.Playing.{start, Plays}
-use Rattle.gr_agree.specs.FirstTruth.{IsGraph, IsSetting}
+use Rattle.gr_agree.specs.Accepted.{IsGraph, IsSetting}
 use Rattle.gr_lists.proofs.Each.{Each-has}
 use Rattle.gr_law_runs.specs.Runs.{HasResult}
 use Rattle.gr_law_runs.proofs.Ends.Results.{done-result}

@@ -2,8 +2,8 @@
 use Rattle.std.specs.Prelude.{◌≡◌, ℕ, List, Ok}
 use Rattle.std.specs.List.{AllByRecursion as Each}
 use Rattle.gr_program.specs.Program.{ProgramLaws}
-use Rattle.gr_agree.specs.FirstTruth.{IsGraph, IsSetting}
-use Rattle.gr_agree.specs.Headline.{NamesPlacesAt, EndsAsItMust}
+use Rattle.gr_agree.specs.Accepted.{IsGraph, IsSetting, NamesPlacesAt}
+use Rattle.gr_agree.specs.Headline.{EndsAsItMust}
 use Rattle.imitate.specs.Reading.{Plan, plan_of}
 use Rattle.imitate.specs.Running.{setting_in, program_in, cluster_after, IsWholeAfter}
 

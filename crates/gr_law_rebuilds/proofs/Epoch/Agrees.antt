@@ -1,13 +1,13 @@
 -- A cluster that opens its next epoch agrees with the same committed state.
-use Rattle.std.proofs.Common.{refl, ap, ◌∙◌, subst, sym, arith}
+use Rattle.std.proofs.Common.{refl, ◌∙◌, sym, arith}
 use Rattle.gr_program.specs.Program.{Program}
-use Rattle.gr_log.specs.Directory.{directory_in, edges_in, KeepsEachOnce}
-use Rattle.gr_cluster.specs.Tables.{Cluster}
+use Rattle.gr_cluster.specs.Tables.{Cluster, log}
 use Rattle.gr_agree.specs.Truth.{Truth}
 use Rattle.gr_agree.specs.TrueRound.{active_next}
 use Rattle.gr_agree.specs.Agree.{Agree}
+use Rattle.gr_law_rounds.proofs.Network.Same.{logs-same}
 use Rattle.gr_law_rounds.proofs.Network.Later.{none-reported}
-use Rattle.gr_law_rebuilds.proofs.Epoch.Opened.{Change, opened, Opens, live-same}
+use Rattle.gr_law_rebuilds.proofs.Epoch.Opened.{Change, next_coordinator, opened, Opens, live-same}
 use Rattle.gr_law_rebuilds.proofs.Epoch.Batches.{network-later}
 use Rattle.gr_law_rebuilds.proofs.Epoch.Parties.{host-later, reborn-later, unready-later}
 use Rattle.gr_law_rebuilds.specs.Epoch.{IsLater}
@@ -19,14 +19,7 @@ module _ {V A : Type 0} (P : Program V A) (t : Truth V) (c : Cluster V A) (AG : 
       shaped = O.shaped;
       places = O.places;
       sound = AG.committed.sound;
-      logs = let G = AG.committed.logs in record {
-        theta = G.theta;
-        holders = G.holders;
-        alive = O.alive;
-        entries = λ q lt r. ap directory_in (O.logs q) ∙ G.entries q lt r;
-        edges = λ q lt r. ap edges_in (O.logs q) ∙ G.edges q lt r;
-        edges_once = λ q lt r. subst KeepsEachOnce (sym (O.logs q)) (G.edges_once q lt r);
-      };
+      logs = logs-same t c.coordinator (next_coordinator t c x) (log c) (log (opened t c x)) refl O.logs O.alive AG.committed.logs;
       hosts = λ q h at l. AG.committed.hosts q h (sym (O.stays q l) ∙ at) (O.live q l);
       round = record { state = AG.committed.round.state; settled = λ e. absurd (O.not_done e) };
     };

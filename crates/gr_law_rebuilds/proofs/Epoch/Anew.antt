@@ -1,18 +1,17 @@
 -- The open work begins anew, where no place is dead: only the mode changes.
-use Rattle.std.proofs.Common.{◌≡◌, ◌≢◌, ◌<◌, [], true, false, refl, sym, ap, ◌∙◌, inl}
+use Rattle.std.proofs.Common.{◌≡◌, ◌≢◌, [], true, false, refl, sym, ap, ◌∙◌, inl}
 use Rattle.gr_base.specs.Rising.{has}
-use Rattle.gr_base.proofs.Rising.{rises-nil}
 use Rattle.gr_program.specs.Program.{Program}
-use Rattle.std.proofs.lemmas.List.Elements.{All-nil}
 use Rattle.gr_view.specs.declared.coordinator.Mode.{Mode}
 use Rattle.gr_view.specs.declared.coordinator.Mode.TheVariants as mode
 use Rattle.gr_view.specs.Modes.{is_open}
-use Rattle.gr_cluster.specs.Tables.{Cluster}
+use Rattle.gr_cluster.specs.Tables.{Cluster, is_up}
 use Rattle.gr_agree.specs.Truth.{Truth}
 use Rattle.gr_agree.specs.Places.{may_have_dead}
 use Rattle.gr_agree.specs.Agree.{Agree}
 use Rattle.gr_law_rounds.specs.Network.{IsKept}
-use Rattle.gr_law_rebuilds.proofs.Epoch.Opened.{Change, opened, Opens}
+use Rattle.gr_law_rounds.proofs.Network.Same.{no-places, shaped-same, places-same, unmoved}
+use Rattle.gr_law_rebuilds.proofs.Epoch.Opened.{Change, next_coordinator, opened, Opens}
 use Rattle.gr_law_rebuilds.proofs.Epoch.Agrees.{opened-agrees}
 
 -- a mode with open work is not the end
@@ -41,26 +40,9 @@ module _ {V A : Type 0} (P : Program V A) (t : Truth V) (c : Cluster V A) (AG : 
 
     anew-opens : Opens t c anew
     anew-opens = record {
-      shaped = let S = AG.committed.shaped in record {
-        few = S.few;
-        hosts = S.hosts;
-        logs = S.logs;
-        live = S.live;
-        dead = S.dead;
-        retired = S.retired;
-        reborn = S.reborn;
-        ready = record { rise = rises-nil (λ p. p); below = All-nil (λ p. p < 64) };
-      };
-      places = let W = AG.committed.places in record {
-        one_set = W.one_set;
-        reborn_dead = W.reborn_dead;
-        none_dead = λ e. W.none_dead none_dead;
-        none_reborn = λ e. no-reborn;
-        retired_down = W.retired_down;
-        dead_down = W.dead_down;
-        done_up = λ e. absurd (open-not_done m opens e);
-        spares = W.spares;
-      };
+      shaped = shaped-same c.coordinator (next_coordinator t c anew) refl refl refl no-places AG.committed.shaped;
+      places = let W = AG.committed.places in
+          places-same c.coordinator (next_coordinator t c anew) refl (is_up c) (is_up c) (λ q down. down) (λ e. W.none_dead none_dead) (λ e. no-reborn) (λ e. absurd (open-not_done m opens e)) W;
       was_not_done = open-not_done c.coordinator.mode was_open;
       not_done = open-not_done m opens;
       alive = λ e. absurd (no-dead-in_recovery m stays e);
@@ -71,16 +53,4 @@ module _ {V A : Type 0} (P : Program V A) (t : Truth V) (c : Cluster V A) (AG : 
     }
 
     pub anew-kept : IsKept P t c (opened t c anew)
-    anew-kept = (
-      record {
-        rows = λ p. refl;
-        arcs = λ p. refl;
-        logs = λ p. refl;
-        spares = refl;
-        live = refl;
-        dead = refl;
-        retired = refl;
-        reborn = refl;
-      },
-      opened-agrees P t c AG anew anew-opens,
-    )
+    anew-kept = (unmoved c (opened t c anew) refl refl refl refl, opened-agrees P t c AG anew anew-opens)

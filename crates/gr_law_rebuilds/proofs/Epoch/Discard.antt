@@ -1,6 +1,7 @@
 -- A discard, in each mode.
 use Rattle.std.proofs.Common.{◌≡◌, ℕ, List, true, false, refl, ap, inl}
 use Rattle.std.specs.Prelude.{if◌then◌else◌}
+use Rattle.std.proofs.lemmas.Bool.{or_left}
 use Rattle.gr_program.specs.Program.{Program}
 use Rattle.gr_batch.specs.declared.outcome.Outcome.{Outcome}
 use Rattle.gr_sched.specs.declared.event.Event.TheVariants as event
@@ -16,6 +17,7 @@ use Rattle.gr_agree.specs.Agree.{Agree}
 use Rattle.gr_lists.proofs.Tests.{by_test}
 use Rattle.gr_law_rounds.specs.Network.{IsKept}
 use Rattle.gr_law_rebuilds.specs.Epoch.{IsLater, IsNewEpoch}
+use Rattle.gr_law_rebuilds.proofs.Rebuild.Stages.{not-over}
 use Rattle.gr_law_rebuilds.proofs.Epoch.Agrees.{opened-later}
 use Rattle.gr_law_rebuilds.proofs.Epoch.Anew.{anew-kept, open-not_done}
 use Rattle.gr_law_rebuilds.proofs.Epoch.Places.{down-among}
@@ -36,9 +38,7 @@ module _ {V A : Type 0} (P : Program V A) (t : Truth V) (c : Cluster V A) (AG : 
   work-kept mode.Running e other = λ new. anew-kept P t c AG mode.Running (ap is_open e) (ap may_have_dead e) refl refl
   work-kept mode.Repairing e other = λ new. anew-kept P t c AG mode.Running (ap is_open e) (ap may_have_dead e) refl refl
   work-kept mode.Recovering e other = absurd (let bad : true ≡ false = other in cc)
-  work-kept mode.Failed e other = λ new. absurd (new refl)
-  work-kept mode.Done e other = λ new. absurd (new refl)
-  work-kept mode.Lost e other = λ new. absurd (new refl)
+  work-kept _ e other = λ new. absurd (new refl)
 
   pub discard-kept : is_recovery c.coordinator.mode ≡ false → IsNewEpoch c (step P c event.Discard).0 → IsKept P t c (step P c event.Discard).0
   unfolding step discarded
@@ -69,19 +69,8 @@ module _ {V A : Type 0} (P : Program V A) (t : Truth V) (c : Cluster V A) (AG : 
         (returned-opens P t c AG crashed c.coordinator.live c.coordinator.dead nobody-dies (open-not_done c.coordinator.mode (ap is_open e))),
   )
   recovery-later mode.Running e y = absurd (let bad : false ≡ true = y in cc)
-  recovery-later mode.Repairing e y = absurd (let bad : false ≡ true = y in cc)
-  recovery-later mode.Failed e y = absurd (let bad : false ≡ true = y in cc)
-  recovery-later mode.Done e y = absurd (let bad : false ≡ true = y in cc)
-  recovery-later mode.Lost e y = absurd (let bad : false ≡ true = y in cc)
-
-  in-recovery : (m : Mode) → is_recovery m ≡ true → is_over m ≡ false
-  in-recovery mode.Recovering y = refl
-  in-recovery mode.Running y = refl
-  in-recovery mode.Repairing y = refl
-  in-recovery mode.Failed y = refl
-  in-recovery mode.Done y = absurd (let bad : false ≡ true = y in cc)
-  in-recovery mode.Lost y = absurd (let bad : false ≡ true = y in cc)
+  recovery-later _ e y = absurd (let bad : false ≡ true = y in cc)
 
   pub discard-later : is_recovery c.coordinator.mode ≡ true → Keeps (step P c event.Discard).0
   unfolding step discarded
-  discard-later y = let o = in-recovery c.coordinator.mode y in rw o (recovery-later c.coordinator.mode refl y)
+  discard-later y = let o = not-over c.coordinator.mode (or_left _ _ y) in rw o (recovery-later c.coordinator.mode refl y)

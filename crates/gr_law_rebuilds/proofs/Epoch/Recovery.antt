@@ -1,5 +1,5 @@
 -- A recovery opens, with a spare for each named place.
-use Rattle.std.proofs.Common.{◌≡◌, ◌≤◌, ◌<◌, ℕ, ◌+◌, ◌-◌, List, [], Bool, true, false, ◌&&◌, nat_lt, refl, sym, ap, ◌∙◌, arith, Some, None, length, leb-true, inl, inr}
+use Rattle.std.proofs.Common.{◌≡◌, ◌≤◌, ◌<◌, ℕ, ◌+◌, ◌-◌, List, [], true, false, ◌&&◌, nat_lt, refl, sym, ap, ◌∙◌, arith, Some, None, length, leb-true, inl, inr}
 use Rattle.std.specs.Prelude.{is_some, nat_le, if◌then◌else◌}
 use Rattle.std.proofs.lemmas.List.Elements.{All-nil}
 use Rattle.std.proofs.lemmas.Bool.{and_parts, both_ways}
@@ -20,7 +20,7 @@ use Rattle.gr_lists.proofs.Tests.{by_test}
 use Rattle.gr_law_rebuilds.specs.Epoch.{IsLater, IsNewEpoch}
 use Rattle.gr_law_rebuilds.proofs.Epoch.Opened.{Change, opened, IsReborn, Opens}
 use Rattle.gr_law_rebuilds.proofs.Epoch.Agrees.{opened-later}
-use Rattle.gr_law_rebuilds.proofs.Epoch.Tables.{length-changed_at, within-changed_at, get_or-unchanged, get_or-changed_at}
+use Rattle.gr_law_rebuilds.proofs.Epoch.Tables.{cut-committed, length-changed_at, within-changed_at, get_or-unchanged, get_or-changed_at}
 use Rattle.gr_law_rebuilds.proofs.Epoch.Places.{has-included, live-not_dead, dead-not_retired, dead-within}
 use Rattle.gr_law_rebuilds.proofs.Epoch.Lost.{none-lost}
 
@@ -46,11 +46,7 @@ module _ {V A : Type 0} (P : Program V A) (t : Truth V) (c : Cluster V A) (AG : 
   log-cut p = get_or-changed_at ps (λ _. cut_log) c.logs p empty_log refl
 
   committed-same : (p : ℕ) → (log d p).committed ≡ (log c p).committed
-  committed-same p = ap (λ (l : Log). l.committed) (log-cut p) ∙ same (has ps p)
-    where
-      same : (b : Bool) → (if b then cut_log (log c p) else log c p).committed ≡ (log c p).committed
-      same true = refl
-      same false = refl
+  committed-same p = ap (λ (l : Log). l.committed) (log-cut p) ∙ cut-committed (has ps p) (log c p)
 
   module _ (are : IsPlaces ps) (was_failed : is_failed c.coordinator.mode ≡ true) (are_dead : includes c.coordinator.dead ps ≡ true) (enough : length ps ≤ c.coordinator.spares)
       (none_lost : nat_lt 0 (length (lost_list c)) ≡ false) where

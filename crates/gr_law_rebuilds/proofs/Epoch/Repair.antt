@@ -23,11 +23,7 @@ module _ {V A : Type 0} (P : Program V A) (t : Truth V) (c : Cluster V A) (AG : 
   by-mode : (m : Mode) → c.coordinator.mode ≡ m → Keeps (opened_or_idle c (at_repair c.coordinator m).1 (with_coordinator (at_repair c.coordinator m).0 c)).0
   unfolding at_repair
   by-mode mode.Running e = λ new. anew-kept P t c AG mode.Repairing (ap is_open e) (ap may_have_dead e) refl refl
-  by-mode mode.Failed e = λ new. absurd (new refl)
-  by-mode mode.Recovering e = λ new. absurd (new refl)
-  by-mode mode.Repairing e = λ new. absurd (new refl)
-  by-mode mode.Done e = λ new. absurd (new refl)
-  by-mode mode.Lost e = λ new. absurd (new refl)
+  by-mode _ e = λ new. absurd (new refl)
 
   pub repair-kept : Keeps (step P c event.Repair).0
   unfolding step repaired

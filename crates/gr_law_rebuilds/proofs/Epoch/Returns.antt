@@ -1,5 +1,5 @@
 -- After a failure the hosts of reborn places go back to the spares, and no place is reborn.
-use Rattle.std.proofs.Common.{◌≡◌, ◌≢◌, ◌<◌, ℕ, ◌+◌, List, [], Bool, true, false, cond, not, ◌&&◌, refl, sym, ap, ◌∙◌, arith, Some, None, length, inl, ◌⊎◌, ⊎_elim}
+use Rattle.std.proofs.Common.{◌≡◌, ◌≢◌, ◌<◌, ℕ, ◌+◌, List, [], true, false, cond, not, ◌&&◌, refl, sym, ap, ◌∙◌, arith, Some, None, length, inl, ◌⊎◌, ⊎_elim}
 use Rattle.std.specs.Prelude.{is_some, if◌then◌else◌}
 use Rattle.std.proofs.lemmas.List.Elements.{All-nil}
 use Rattle.std.proofs.lemmas.Bool.{and_left, both_ways}
@@ -15,7 +15,7 @@ use Rattle.gr_agree.specs.Truth.{Truth}
 use Rattle.gr_agree.specs.Agree.{Agree}
 use Rattle.gr_lists.proofs.Tests.{by_test}
 use Rattle.gr_law_rebuilds.proofs.Epoch.Opened.{Change, opened, Opens}
-use Rattle.gr_law_rebuilds.proofs.Epoch.Tables.{length-changed_at, get_or-changed_at}
+use Rattle.gr_law_rebuilds.proofs.Epoch.Tables.{cut-committed, length-changed_at, get_or-changed_at}
 use Rattle.gr_law_rebuilds.proofs.Epoch.Places.{has-without, length-without, live-not_dead}
 
 module _ {V A : Type 0} (P : Program V A) (t : Truth V) (c : Cluster V A) (AG : Agree P t c) (ps live dead : List ℕ) where
@@ -70,11 +70,7 @@ module _ {V A : Type 0} (P : Program V A) (t : Truth V) (c : Cluster V A) (AG : 
       (λ n. ap is_some (keeps-host p n) ∙ off)
 
   committed-same : (p : ℕ) → (log d p).committed ≡ (log c p).committed
-  committed-same p = ap (λ (l : Log). l.committed) (log-returned p) ∙ same (has back p)
-    where
-      same : (b : Bool) → (if b then cut_log (log c p) else log c p).committed ≡ (log c p).committed
-      same true = refl
-      same false = refl
+  committed-same p = ap (λ (l : Log). l.committed) (log-returned p) ∙ cut-committed (has back p) (log c p)
 
   module _ (R : Returns) where
     -- a reborn place crashed, or goes back

@@ -1,11 +1,12 @@
 -- The entries of a table that changes at some places.
-use Rattle.std.proofs.Common.{◌≡◌, ◌<◌, ◌≤◌, ℕ, List, false, length, sym, ap, ◌∙◌, get_or, zero-add, ⊎_elim}
+use Rattle.std.proofs.Common.{◌≡◌, ◌<◌, ◌≤◌, ℕ, List, Bool, true, false, refl, length, sym, ap, ◌∙◌, get_or, zero-add, ⊎_elim}
 use Rattle.std.specs.Prelude.{if◌then◌else◌}
 use Rattle.std.specs.List.{enumerate_from}
 use Rattle.std.proofs.lemmas.List.{length-map, get_or-map, get_or_past}
 use Rattle.std.proofs.lemmas.List.FromFn.{length-enumerate_from, get_or-enumerate_from}
 use Rattle.std.proofs.lemmas.Bool.{cases_lt}
 use Rattle.gr_base.specs.Rising.{has}
+use Rattle.gr_log.specs.Log.{Log, cut_log}
 use Rattle.gr_lists.proofs.Choices.{if-same}
 use Rattle.gr_cluster.specs.Tables.{changed_at}
 
@@ -36,3 +37,8 @@ module _ {X : Type 0} (ps : List ℕ) (f : ℕ → X → X) (xs : List X) where
     get_or-changed_at fixed = ⊎_elim within-changed_at
         (λ le. past-changed_at le ∙ sym (ap (λ y. if has ps p then f p y else y) (get_or_past xs p d le) ∙ (ap (λ y. if has ps p then y else d) fixed ∙ if-same (has ps p) d)))
         (cases_lt p (length xs))
+
+-- a log that is cut keeps what is committed
+pub cut-committed : (b : Bool) (l : Log) → (if b then cut_log l else l).committed ≡ l.committed
+cut-committed true l = refl
+cut-committed false l = refl

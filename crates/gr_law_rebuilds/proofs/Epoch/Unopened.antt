@@ -11,7 +11,7 @@ use Rattle.gr_view.specs.declared.coordinator.Mode.{Mode}
 use Rattle.gr_view.specs.declared.coordinator.Mode.TheVariants as mode
 use Rattle.gr_view.specs.Modes.{is_over, is_failed, is_recovery}
 use Rattle.gr_view.specs.Decisions.{parties, going_back, may_recover, at_recovery, at_repair, at_discard}
-use Rattle.gr_cluster.specs.Tables.{Host, Cluster, log, view_of, wanted_in}
+use Rattle.gr_cluster.specs.Tables.{Host, Cluster, is_up, log, view_of, wanted_in}
 use Rattle.gr_cluster.specs.Step.{down_among, without_hosts, with_coordinator, lost_list, recovered, opened_or_idle, repaired, discarded_or_idle, discarded, step}
 use Rattle.gr_agree.specs.Truth.{Truth}
 use Rattle.gr_agree.specs.Hosts.{HostOpen}
@@ -20,16 +20,13 @@ use Rattle.gr_agree.specs.Agree.{Agree}
 use Rattle.gr_lists.proofs.Tests.{by_test}
 use Rattle.gr_lists.proofs.Each.{Each-weaker}
 use Rattle.gr_law_rounds.specs.Network.{IsKept}
+use Rattle.gr_law_rounds.proofs.Network.Same.{shaped-same, places-same, logs-same, unmoved}
 use Rattle.gr_law_rounds.proofs.Network.Kept.{kept-same}
 use Rattle.gr_law_rebuilds.specs.Epoch.{is_order}
 
 pub failed-mode : (m : Mode) → is_failed m ≡ true → m ≡ mode.Failed
 failed-mode mode.Failed y = refl
-failed-mode mode.Running y = absurd (let bad : false ≡ true = y in cc)
-failed-mode mode.Recovering y = absurd (let bad : false ≡ true = y in cc)
-failed-mode mode.Repairing y = absurd (let bad : false ≡ true = y in cc)
-failed-mode mode.Done y = absurd (let bad : false ≡ true = y in cc)
-failed-mode mode.Lost y = absurd (let bad : false ≡ true = y in cc)
+failed-mode _ y = absurd (let bad : false ≡ true = y in cc)
 
 module _ {V A : Type 0} (P : Program V A) (t : Truth V) (c : Cluster V A) where
   -- the cluster in a mode
@@ -43,14 +40,7 @@ module _ {V A : Type 0} (P : Program V A) (t : Truth V) (c : Cluster V A) where
   lost = in_mode mode.Lost
 
   batch-lost : (b : Batch V A) → BatchHolds P (view_of P failed) (wanted_in P failed) t failed.coordinator b → BatchHolds P (view_of P lost) (wanted_in P lost) t lost.coordinator b
-  batch-lost b B = record {
-    apart = B.apart;
-    epoch = B.epoch;
-    sender = B.sender;
-    receiver = B.receiver;
-    stage = B.stage;
-    body = B.body;
-  }
+  batch-lost b B = record { apart = B.apart; epoch = B.epoch; sender = B.sender; receiver = B.receiver; stage = B.stage; body = B.body }
 
   host-lost : (p : ℕ) (h : Host V A) (l : Log) → HostOpen P (view_of P failed) (wanted_in P failed) t failed.coordinator p h l → HostOpen P (view_of P lost) (wanted_in P lost) t lost.coordinator p h l
   host-lost p h l O = record {
@@ -75,35 +65,12 @@ module _ {V A : Type 0} (P : Program V A) (t : Truth V) (c : Cluster V A) where
   lost-agrees : Agree P t failed → Agree P t lost
   lost-agrees AG = record {
     committed = record {
-      shaped = let S = AG.committed.shaped in record {
-        few = S.few;
-        hosts = S.hosts;
-        logs = S.logs;
-        live = S.live;
-        dead = S.dead;
-        retired = S.retired;
-        reborn = S.reborn;
-        ready = S.ready;
-      };
-      places = let W = AG.committed.places in record {
-        one_set = W.one_set;
-        reborn_dead = W.reborn_dead;
-        none_dead = λ e. absurd (let bad : true ≡ false = e in cc);
-        none_reborn = λ e. W.none_reborn (λ k. let bad : mode.Failed ≡ mode.Recovering = k in cc);
-        retired_down = W.retired_down;
-        dead_down = W.dead_down;
-        done_up = λ e. absurd (let bad : mode.Lost ≡ mode.Done = e in cc);
-        spares = W.spares;
-      };
+      shaped = shaped-same failed.coordinator lost.coordinator refl refl refl AG.committed.shaped.ready AG.committed.shaped;
+      places = let W = AG.committed.places in
+          places-same failed.coordinator lost.coordinator refl (is_up c) (is_up c) (λ p down. down) (λ e. absurd (let bad : true ≡ false = e in cc))
+          (λ e. W.none_reborn (λ k. let bad : mode.Failed ≡ mode.Recovering = k in cc)) (λ e. absurd (let bad : mode.Lost ≡ mode.Done = e in cc)) W;
       sound = AG.committed.sound;
-      logs = let G = AG.committed.logs in record {
-        theta = G.theta;
-        holders = G.holders;
-        alive = λ e. absurd (let bad : mode.Lost ≡ mode.Recovering = e in cc);
-        entries = G.entries;
-        edges = G.edges;
-        edges_once = G.edges_once;
-      };
+      logs = logs-same t failed.coordinator lost.coordinator (log c) (log c) refl (λ p. refl) (λ e. absurd (let bad : mode.Lost ≡ mode.Recovering = e in cc)) AG.committed.logs;
       hosts = AG.committed.hosts;
       round = record { state = AG.committed.round.state; settled = λ e. absurd (let bad : mode.Lost ≡ mode.Done = e in cc) };
     };
@@ -132,19 +99,7 @@ module _ {V A : Type 0} (P : Program V A) (t : Truth V) (c : Cluster V A) where
 
   module _ (AG : Agree P t c) where
     lost-kept : is_failed c.coordinator.mode ≡ true → IsKept P t c lost
-    lost-kept was_failed = (
-      record {
-        rows = λ p. refl;
-        arcs = λ p. refl;
-        logs = λ p. refl;
-        spares = refl;
-        live = refl;
-        dead = refl;
-        retired = refl;
-        reborn = refl;
-      },
-      lost-agrees (subst (Agree P t) (ap in_mode (failed-mode c.coordinator.mode was_failed)) AG),
-    )
+    lost-kept was_failed = (unmoved c lost refl refl refl refl, lost-agrees (subst (Agree P t) (ap in_mode (failed-mode c.coordinator.mode was_failed)) AG))
 
     -- the cluster afterwards is in the same epoch only where nothing opened
     abbrev Keeps : Cluster V A → Type 0
@@ -164,29 +119,19 @@ module _ {V A : Type 0} (P : Program V A) (t : Truth V) (c : Cluster V A) where
     unrepaired : (m : Mode) → Keeps (opened_or_idle c (at_repair c.coordinator m).1 (with_coordinator (at_repair c.coordinator m).0 c)).0
     unfolding at_repair
     unrepaired mode.Running = λ e. absurd (omega (arith, e))
-    unrepaired mode.Failed = same
-    unrepaired mode.Recovering = same
-    unrepaired mode.Repairing = same
-    unrepaired mode.Done = same
-    unrepaired mode.Lost = same
+    unrepaired _ = same
 
     undiscarded : (ps : List ℕ) (m : Mode) → Keeps (discarded_or_idle c (at_discard c.coordinator ps m).1
         (with_coordinator (at_discard c.coordinator ps m).0 (if is_recovery m then without_hosts (going_back c.coordinator ps) c else c))).0
     unfolding at_discard
-    undiscarded ps mode.Running = λ e. absurd (omega (arith, e))
-    undiscarded ps mode.Repairing = λ e. absurd (omega (arith, e))
-    undiscarded ps mode.Recovering = λ e. absurd (omega (arith, e))
     undiscarded ps mode.Failed = same
     undiscarded ps mode.Done = same
     undiscarded ps mode.Lost = same
+    undiscarded ps _ = λ e. absurd (omega (arith, e))
 
     pub unopened-kept : (e : Event) → is_order e ≡ true → Keeps (step P c e).0
     unfolding step repaired discarded
     unopened-kept (event.Recover ps) y = by_test (is_over c.coordinator.mode) (λ o. rw o same) (λ o. rw o (unrecovered ps))
     unopened-kept event.Repair y = by_test (is_over c.coordinator.mode) (λ o. rw o same) (λ o. rw o (unrepaired c.coordinator.mode))
     unopened-kept event.Discard y = by_test (is_over c.coordinator.mode) (λ o. rw o same) (λ o. rw o (undiscarded (down_among c (parties c.coordinator)) c.coordinator.mode))
-    unopened-kept event.Barrier y = absurd (let bad : false ≡ true = y in cc)
-    unopened-kept (event.Work p) y = absurd (let bad : false ≡ true = y in cc)
-    unopened-kept (event.Deliver i) y = absurd (let bad : false ≡ true = y in cc)
-    unopened-kept (event.Discarded i) y = absurd (let bad : false ≡ true = y in cc)
-    unopened-kept (event.Crash p n) y = absurd (let bad : false ≡ true = y in cc)
+    unopened-kept _ y = absurd (let bad : false ≡ true = y in cc)

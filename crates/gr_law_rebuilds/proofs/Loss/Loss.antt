@@ -6,8 +6,7 @@ use Rattle.std.proofs.Math.Bool.{and-true}
 use Rattle.std.proofs.lemmas.List.{length-set, get_or-set_same, get_or-set_other}
 use Rattle.std.proofs.lemmas.Bool.{and_right}
 use Rattle.gr_program.specs.Program.{Program}
-use Rattle.gr_log.specs.Log.{Log, empty_log, torn_log}
-use Rattle.gr_log.specs.Directory.{directory_in, edges_in, KeepsEachOnce}
+use Rattle.gr_log.specs.Log.{Log, torn_log}
 use Rattle.gr_batch.specs.declared.stage.Stage.{Stage}
 use Rattle.gr_batch.specs.Bodies.{is_of}
 use Rattle.gr_batch.specs.declared.outcome.Outcome.{Outcome}
@@ -23,6 +22,7 @@ use Rattle.gr_agree.specs.Network.{BatchHolds, is_shown, standing}
 use Rattle.gr_agree.specs.Agree.{Agree}
 use Rattle.gr_agree.specs.Laws.{is_crash}
 use Rattle.gr_law_rounds.proofs.Network.Frame.{within}
+use Rattle.gr_law_rounds.proofs.Network.Same.{shaped-same, places-same, logs-same, log-elsewhere, committed-here}
 use Rattle.gr_lists.proofs.Tests.{by_test, by_same}
 
 module _ {V A : Type 0} (P : Program V A) (t : Truth V) (c : Cluster V A) (AG : Agree P t c) (p n : ℕ) (h : Host V A) (at : host c p ≡ Some h) (goes_on : is_over c.coordinator.mode ≡ false) where
@@ -42,12 +42,10 @@ module _ {V A : Type 0} (P : Program V A) (t : Truth V) (c : Cluster V A) (AG : 
   there q ne = get_or-set_other c.hosts p q None None ne
 
   other-log : (q : ℕ) → q ≢ p → log d q ≡ log c q
-  other-log q ne = get_or-set_other c.logs p q torn empty_log ne
+  other-log = log-elsewhere c.logs p torn inside
 
   committed-same : (q : ℕ) → (log d q).committed ≡ (log c q).committed
-  committed-same q = by_same q p
-      (λ e. (λ i. (log d (e i)).committed) ∙ (ap (λ (l : Log). l.committed) (get_or-set_same c.logs p torn empty_log inside) ∙ (λ i. (log c (sym e i)).committed)))
-      (λ ne. ap (λ (l : Log). l.committed) (other-log q ne))
+  committed-same = committed-here c.logs p torn inside refl
 
   -- a place that is up is another one, and was up
   elsewhere : (q : ℕ) → is_some (host d q) ≡ true → q ≢ p
@@ -79,35 +77,10 @@ module _ {V A : Type 0} (P : Program V A) (t : Truth V) (c : Cluster V A) (AG : 
   pub loss-agrees : Agree P t d
   loss-agrees = record {
     committed = record {
-      shaped = let S = AG.committed.shaped in record {
-        few = S.few;
-        hosts = length-set c.hosts p None ∙ S.hosts;
-        logs = length-set c.logs p torn ∙ S.logs;
-        live = S.live;
-        dead = S.dead;
-        retired = S.retired;
-        reborn = S.reborn;
-        ready = S.ready;
-      };
-      places = let W = AG.committed.places in record {
-        one_set = W.one_set;
-        reborn_dead = W.reborn_dead;
-        none_dead = W.none_dead;
-        none_reborn = W.none_reborn;
-        retired_down = λ q r. up-before q (W.retired_down q r);
-        dead_down = λ q y r. up-before q (W.dead_down q y r);
-        done_up = λ e. absurd (not-done e);
-        spares = W.spares;
-      };
+      shaped = shaped-same c.coordinator c.coordinator refl (length-set c.hosts p None) (length-set c.logs p torn) AG.committed.shaped.ready AG.committed.shaped;
+      places = let W = AG.committed.places in places-same c.coordinator c.coordinator refl (is_up c) (is_up d) up-before W.none_dead W.none_reborn (λ e. absurd (not-done e)) W;
       sound = AG.committed.sound;
-      logs = let G = AG.committed.logs in record {
-        theta = G.theta;
-        holders = G.holders;
-        alive = G.alive;
-        entries = λ q lt r. ap directory_in (committed-same q) ∙ G.entries q lt r;
-        edges = λ q lt r. ap edges_in (committed-same q) ∙ G.edges q lt r;
-        edges_once = λ q lt r. subst KeepsEachOnce (sym (committed-same q)) (G.edges_once q lt r);
-      };
+      logs = logs-same t c.coordinator c.coordinator (log c) (log d) refl committed-same AG.committed.logs.alive AG.committed.logs;
       hosts = λ q k is live. AG.committed.hosts q k (was q k is) live;
       round = AG.committed.round;
     };

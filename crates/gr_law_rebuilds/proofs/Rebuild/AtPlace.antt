@@ -1,5 +1,5 @@
 -- What a party of a rebuild sends, stages and appends, once it has what it needs.
-use Rattle.std.proofs.Common.{◌≡◌, ℕ, List, [], ◌∷◌, ◌++◌, true, false, not, ◌==◌, ◌&&◌, flat_map, refl, sym, ap, ◌∙◌, subst, arith, ⊎_elim, Some, eqb-true, eq-eqb}
+use Rattle.std.proofs.Common.{◌≡◌, ℕ, List, [], ◌∷◌, ◌++◌, true, false, not, ◌==◌, ◌&&◌, flat_map, refl, sym, ap, ◌∙◌, subst, ⊎_elim, Some, eqb-true, eq-eqb}
 use Rattle.std.specs.Prelude.{is_none}
 use Rattle.std.specs.List.{AllByRecursion as Each, list_any}
 use Rattle.std.proofs.Math.Bool.{and-true, or-false}
@@ -9,8 +9,6 @@ use Rattle.gr_base.specs.Rising.{has}
 use Rattle.gr_program.specs.Program.{Program}
 use Rattle.gr_copies.specs.declared.view.RebuildView.{RebuildView}
 use Rattle.gr_log.specs.Directory.{with_items}
-use Rattle.gr_batch.specs.declared.body.Body.{Body}
-use Rattle.gr_batch.specs.declared.body.Body.TheVariants as body
 use Rattle.gr_batch.specs.declared.stage.Stage.{Stage}
 use Rattle.gr_batch.specs.declared.stage.Stage.TheVariants as stage
 use Rattle.gr_batch.specs.Stages.{code_of, is_end}
@@ -35,7 +33,8 @@ use Rattle.gr_lists.proofs.Each.{Each-has}
 use Rattle.gr_lists.proofs.Any.{has-filter, list_any-flat_map}
 use Rattle.gr_law_rounds.proofs.Network.Kept.{up-party}
 use Rattle.gr_law_rounds.proofs.Round.Brought.{brought-lists}
-use Rattle.gr_law_rounds.proofs.Round.Compute.{other-party}
+use Rattle.gr_law_rounds.proofs.Round.Codes.{said-of}
+use Rattle.gr_law_rounds.proofs.Round.InEpoch.{other-party}
 use Rattle.gr_law_rebuilds.proofs.Rebuild.Selecting.{filter-agree, filter-both}
 use Rattle.gr_law_rebuilds.proofs.Rebuild.Granters.{granter-holds}
 use Rattle.gr_law_rebuilds.proofs.Rebuild.Taken.{taken_edges-true}
@@ -44,23 +43,6 @@ use Rattle.gr_law_rebuilds.proofs.Rebuild.Grants.{grant-body-true, grant-body-no
 use Rattle.gr_law_rebuilds.proofs.Rebuild.Granted.{granted-true}
 use Rattle.gr_law_rebuilds.proofs.Rebuild.Parties.{some-alive, within, said-retiring, granter-party, party-cases, stable-live, stable-lacks}
 use Rattle.gr_law_rebuilds.proofs.Rebuild.Stages.{IsRebuildStage, by_sent_stage}
-
-module _ {V A : Type 0} (P : Program V A) (w : RebuildView) (want : ℕ) (t : Truth V) (q p : ℕ) where
-  asks-true : (b : Body V A) → TrueBody P w want t q p b → 4 ≡ code_of (stage_of_body b) → asks_of b ≡ true_asks w t q p
-  asks-true (body.Ask xs) h e = h
-  asks-true (body.Gather xs) h e = absurd (omega (arith, e))
-  asks-true (body.Update xs) h e = absurd (omega (arith, e))
-  asks-true (body.Signal xs) h e = absurd (omega (arith, e))
-  asks-true (body.Call xs) h e = absurd (omega (arith, e))
-  asks-true (body.Grant xs) h e = absurd (omega (arith, e))
-
-  grants-true : (b : Body V A) → TrueBody P w want t q p b → 5 ≡ code_of (stage_of_body b) → grants_of b ≡ true_grants P w want t q p
-  grants-true (body.Grant xs) h e = h
-  grants-true (body.Gather xs) h e = absurd (omega (arith, e))
-  grants-true (body.Update xs) h e = absurd (omega (arith, e))
-  grants-true (body.Signal xs) h e = absurd (omega (arith, e))
-  grants-true (body.Call xs) h e = absurd (omega (arith, e))
-  grants-true (body.Ask xs) h e = absurd (omega (arith, e))
 
 module _ {V A : Type 0} (P : Program V A) (t : Truth V) (c : Cluster V A) (AG : Agree P t c) (rebuilding : is_rebuild c.coordinator.mode ≡ true)
     (p : ℕ) (h : Host V A) (at : host c p ≡ Some h) (now : h.epoch ≡ c.coordinator.epoch) (stable : h.stable ≡ stable_at P (view_of P c) (wanted_in P c) t p) where
@@ -96,7 +78,7 @@ module _ {V A : Type 0} (P : Program V A) (t : Truth V) (c : Cluster V A) (AG : 
   asked-by f v q m =
       (λ i. list_any (λ b. has (asks_of b) v) (bodies h.inbox (now i) stage.Ask (q ∷ [])))
       ∙ (sym (list_any-flat_map (λ x. x == v) asks_of (bodies h.inbox c.coordinator.epoch stage.Ask (q ∷ [])))
-      ∙ (ap (λ l. has l v) (brought-lists P w want t c.coordinator p h.inbox inbox-good asks_of (λ r. true_asks w t r p) stage.Ask (λ r. asks-true P w want t r p) (q ∷ []) (there stage.Ask f q m, tt))
+      ∙ (ap (λ l. has l v) (brought-lists P w want t c.coordinator p h.inbox inbox-good asks_of (λ r. true_asks w t r p) stage.Ask (λ r. said-of P w want t r p stage.Ask) (q ∷ []) (there stage.Ask f q m, tt))
       ∙ (list_any-append (λ x. x == v) (true_asks w t q p) [] ∙ or-false (has (true_asks w t q p) v))))
 
   has-asks : (v q : ℕ) → has t.vertices v ≡ true → is_granter w (true_entry t v) p ≡ true → has (true_asks w t q p) v ≡ is_asker w t v q
@@ -132,7 +114,7 @@ module _ {V A : Type 0} (P : Program V A) (t : Truth V) (c : Cluster V A) (AG : 
   granted-here f g =
       (λ i. with_items (λ r. r.vertex) (flat_map grants_of (bodies h.inbox (now i) stage.Grant rest) ++ grant-here f p i) [])
       ∙ (ap (λ l. with_items (λ r. r.vertex) (l ++ true_grants P w want t p p) [])
-      (brought-lists P w want t c.coordinator p h.inbox inbox-good grants_of (λ r. true_grants P w want t r p) stage.Grant (λ r. grants-true P w want t r p) rest (Each-has _ rest (there stage.Grant g)))
+      (brought-lists P w want t c.coordinator p h.inbox inbox-good grants_of (λ r. true_grants P w want t r p) stage.Grant (λ r. said-of P w want t r p stage.Grant) rest (Each-has _ rest (there stage.Grant g)))
       ∙ granted-true P t AG.committed.sound w want p rest (λ v q m k. by_same q p
       (λ e. list_any-append (λ x. x == q) rest (p ∷ []) ∙ or_right (has rest q) _ (or_left _ _ (eq-eqb p q (sym e))))
       (λ ne. list_any-append (λ x. x == q) rest (p ∷ []) ∙ or_left _ _ (other-party (parties c.coordinator) p q (granter-party P t c AG rebuilding v q m k) (λ x. ne (sym x)))))

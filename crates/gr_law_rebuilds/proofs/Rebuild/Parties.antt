@@ -29,10 +29,7 @@ use Rattle.gr_law_rebuilds.proofs.Rebuild.Granters.{granter-alive, granter-holds
 recovery-or_repair : (m : Mode) → is_rebuild m ≡ true → (m ≡ mode.Recovering) ⊎ (m ≡ mode.Repairing)
 recovery-or_repair mode.Recovering e = inl refl
 recovery-or_repair mode.Repairing e = inr refl
-recovery-or_repair mode.Running e = absurd (let bad : false ≡ true = e in cc)
-recovery-or_repair mode.Failed e = absurd (let bad : false ≡ true = e in cc)
-recovery-or_repair mode.Done e = absurd (let bad : false ≡ true = e in cc)
-recovery-or_repair mode.Lost e = absurd (let bad : false ≡ true = e in cc)
+recovery-or_repair _ e = absurd (let bad : false ≡ true = e in cc)
 
 -- a layer of a copy for each of some vertices lacks exactly the others
 row-lacks : {V : Type 0} (f : ℕ → VertexCopy V) → ((u : ℕ) → (f u).vertex ≡ u) → (g : ℕ → Bool) (vs : List ℕ) (v : ℕ) → is_none (row (map f (filter g vs)) v) ≡ not (has vs v && g v)

@@ -6,7 +6,7 @@ use Rattle.gr_batch.specs.declared.stage.Stage.TheVariants as stage
 use Rattle.gr_batch.specs.Stages.{place_in, is_stage, is_end, stage_after}
 use Rattle.gr_view.specs.declared.coordinator.Mode.{Mode}
 use Rattle.gr_view.specs.declared.coordinator.Mode.TheVariants as mode
-use Rattle.gr_view.specs.Modes.{is_open, is_round, is_failed, is_rebuild}
+use Rattle.gr_view.specs.Modes.{is_open, is_round, is_failed, is_rebuild, is_over}
 use Rattle.gr_cluster.specs.Stages.{stages_of, has_stage, first_stage}
 
 abbrev pub IsRebuildStage : Stage → Type 0
@@ -23,20 +23,19 @@ pub record IsRebuildMode (m : Mode) : Type 0 where
 pub rebuild-mode : (m : Mode) → is_rebuild m ≡ true → IsRebuildMode m
 rebuild-mode mode.Recovering e = record { stages = refl; open_mode = refl; not_failed = refl; not_round = refl; first = refl }
 rebuild-mode mode.Repairing e = record { stages = refl; open_mode = refl; not_failed = refl; not_round = refl; first = refl }
-rebuild-mode mode.Running e = absurd (let bad : false ≡ true = e in cc)
-rebuild-mode mode.Failed e = absurd (let bad : false ≡ true = e in cc)
-rebuild-mode mode.Done e = absurd (let bad : false ≡ true = e in cc)
-rebuild-mode mode.Lost e = absurd (let bad : false ≡ true = e in cc)
+rebuild-mode _ e = absurd (let bad : false ≡ true = e in cc)
+
+pub not-over : (m : Mode) → is_rebuild m ≡ true → is_over m ≡ false
+not-over mode.Done e = absurd (let bad : false ≡ true = e in cc)
+not-over mode.Lost e = absurd (let bad : false ≡ true = e in cc)
+not-over _ e = refl
 
 -- something of each stage of a rebuild
 pub by_stage : (R : Stage → Type 0) → R stage.Ask → R stage.Grant → R stage.End → (s : Stage) → IsRebuildStage s → R s
 by_stage R ask grant end stage.Ask r = ask
 by_stage R ask grant end stage.Grant r = grant
 by_stage R ask grant end stage.End r = end
-by_stage R ask grant end stage.Gather r = absurd (let bad : false ≡ true = r in cc)
-by_stage R ask grant end stage.Update r = absurd (let bad : false ≡ true = r in cc)
-by_stage R ask grant end stage.Signal r = absurd (let bad : false ≡ true = r in cc)
-by_stage R ask grant end stage.Call r = absurd (let bad : false ≡ true = r in cc)
+by_stage R ask grant end _ r = absurd (let bad : false ≡ true = r in cc)
 
 -- something of each stage but the end
 pub by_sent_stage : (R : Stage → Type 0) → R stage.Ask → R stage.Grant → (s : Stage) → IsRebuildStage s → is_end s ≡ false → R s
@@ -55,13 +54,6 @@ before-next s k r r' e = by_sent_stage (λ k. nat_lt (place_in s) (place_in (sta
 
 pub next-place : (k : Stage) → IsRebuildStage k → is_end k ≡ false → (place_in k < place_in (stage_after k)) × (place_in (stage_after k) ≤ 4) × (place_in k + 1 ≤ 4)
 next-place = by_sent_stage (λ k. (place_in k < place_in (stage_after k)) × (place_in (stage_after k) ≤ 4) × (place_in k + 1 ≤ 4)) (omega arith, omega arith, omega arith) (omega arith, omega arith, omega arith)
-
--- a stage before the next one is before k, or is k
-pub before-or_same : (s k : Stage) → IsRebuildStage s → IsRebuildStage k → is_end k ≡ false → place_in s < place_in (stage_after k) → place_in s < place_in k + 1
-before-or_same s k r r' e = by_sent_stage (λ k. place_in s < place_in (stage_after k) → place_in s < place_in k + 1)
-    (by_stage (λ s. place_in s < 1 → place_in s < 0 + 1) (λ l. omega arith) (λ l. absurd (omega (arith, l))) (λ l. absurd (omega (arith, l))) s r)
-    (by_stage (λ s. place_in s < 4 → place_in s < 1 + 1) (λ l. omega arith) (λ l. omega arith) (λ l. absurd (omega (arith, l))) s r)
-    k r' e
 
 -- the stages stand at different places
 pub same-place : (s k : Stage) → IsRebuildStage s → IsRebuildStage k → place_in s ≡ place_in k → s ≡ k

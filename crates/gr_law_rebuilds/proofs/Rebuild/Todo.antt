@@ -1,5 +1,6 @@
 -- The cases of what a place does next while a rebuild is open, each with what its tests said.
 use Rattle.std.proofs.Common.{◌≡◌, ℕ, ◌<◌, ◌≤◌, List, true, false, not, ◌&&◌, sym, ap, subst, Option, Some, None, ltb-true, ltb-false, nat_lt}
+use Rattle.std.specs.Prelude.{⊤}
 use Rattle.std.specs.List.{list_any}
 use Rattle.std.proofs.lemmas.Bool.{and_parts, not-true, not-false, and_from, both_ways, true_from_ne_false}
 use Rattle.gr_batch.specs.declared.batch.Batch.{Batch}
@@ -60,3 +61,15 @@ module _ {V A : Type 0} (co : Coordinator) (p : ℕ) (h : Host V A) (rebuilding 
 
       is-appended : h.computed ≡ true → (h.computed && (is_rebuild co.mode && not h.appended)) ≡ false → h.appended ≡ true
       is-appended k e = true_from_ne_false h.appended (λ n. both_ways _ e (and_from h.computed _ k (and_from (is_rebuild co.mode) _ rebuilding (ap not n))))
+
+  -- what is known of a place by what it does next
+  abbrev pub Meets : Todo → Type 0
+  Meets Todo.Compute = h.computed ≡ false
+  Meets (Todo.Send q) = (h.computed ≡ true) × (is_end h.stage ≡ false) × (unsent (others co p) h.sent ≡ Some q)
+  Meets Todo.Append = h.appended ≡ false
+  Meets Todo.Report = (h.computed ≡ true) × (is_end h.stage ≡ true) × (h.appended ≡ true) × (h.reported ≡ false)
+  Meets _ = ⊤
+
+  pub todo-meets : (x : Todo) → todo co p h ≡ x → Meets x
+  todo-meets x e = subst Meets e (case-todo Meets tt (λ s q. tt) (λ _. tt) (λ _ _. tt) (λ _ _ fresh _. fresh)
+      (λ q _ _ comp sends un. (comp, sends, un)) (λ _ _ _ _ fresh. fresh) (λ _ _ comp end appended fresh. (comp, end, appended, fresh)))

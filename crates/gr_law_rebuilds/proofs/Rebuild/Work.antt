@@ -13,7 +13,8 @@ use Rattle.gr_lists.proofs.Tests.{by_test}
 use Rattle.gr_law_rounds.specs.Network.{IsKept}
 use Rattle.gr_law_rounds.proofs.Network.Kept.{kept-same}
 use Rattle.gr_law_rebuilds.proofs.Rebuild.Todo.{case-todo}
-use Rattle.gr_law_rebuilds.proofs.Rebuild.Install.{install-kept, adopt-kept}
+use Rattle.gr_law_rounds.proofs.Round.Install.{install-kept, adopt-kept}
+use Rattle.gr_law_rebuilds.proofs.Rebuild.InEpoch.{starts}
 use Rattle.gr_law_rebuilds.proofs.Rebuild.Compute.{compute-kept}
 use Rattle.gr_law_rebuilds.proofs.Rebuild.Send.{send-kept}
 use Rattle.gr_law_rebuilds.proofs.Rebuild.Append.{append-kept}
@@ -25,8 +26,8 @@ module _ {V A : Type 0} (P : Program V A) (t : Truth V) (c : Cluster V A) (AG : 
   worked-kept p h at opened = case-todo c.coordinator p h rebuilding opened (λ x. IsKept P t c (worked P c p h x).0)
       (kept-same P t c AG)
       (λ s q. kept-same P t c AG)
-      (λ lt. install-kept P t c AG rebuilding p h at lt)
-      (λ le lt. adopt-kept P t c AG rebuilding p h at le lt)
+      (λ lt. install-kept P t c AG p h at lt)
+      (λ le lt. adopt-kept P t c AG p h at le lt (starts P t c AG rebuilding p h at))
       (λ le le' comp needs. compute-kept P t c AG rebuilding p h at le le' comp needs)
       (λ q le le' comp sends un. send-kept P t c AG rebuilding p h at le le' comp q un sends)
       (λ le le' comp end fresh. append-kept P t c AG rebuilding p h at le le' comp end fresh)

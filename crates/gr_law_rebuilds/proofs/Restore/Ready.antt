@@ -51,9 +51,7 @@ module _ {V A : Type 0} (P : Program V A) (t : Truth V) (c : Cluster V A) (AG : 
           ap (λ l. includes l (t.holders v)) (AG.committed.places.none_dead (ap may_have_dead is))
           ∙ includes-none (t.master v) (t.holders v) (AG.committed.sound.master_holds v there)
       of mode.Running is y = absurd (let bad : false ≡ true = y in cc)
-      of mode.Failed is y = absurd (let bad : false ≡ true = y in cc)
-      of mode.Done is y = absurd (let bad : false ≡ true = y in cc)
-      of mode.Lost is y = absurd (let bad : false ≡ true = y in cc)
+      of _ is y = absurd (let bad : false ≡ true = y in cc)
 
   pub fits-here : Fits (view_of P c) t
   fits-here = record {

@@ -1,36 +1,24 @@
 -- What a log says once a rebuild has appended to it.
-use Rattle.std.proofs.Common.{◌≡◌, ℕ, ◌+◌, List, [], ◌∷◌, ◌++◌, map, filter_map, length, refl, sym, ap, ◌∙◌}
+use Rattle.std.proofs.Common.{◌≡◌, ℕ, ◌+◌, List, [], ◌++◌, map, filter_map, length, sym, ap, ◌∙◌}
 use Rattle.std.proofs.lemmas.List.{length-append}
 use Rattle.std.proofs.lemmas.List.Elements.{filter_map-append}
 use Rattle.std.proofs.lemmas.List.Sums.{fold-append}
 use Rattle.gr_base.specs.declared.records.NumberedEdge.{NumberedEdge}
 use Rattle.gr_base.specs.Rising.{RisesBy, with_item}
-use Rattle.gr_program.specs.declared.copy.VertexCopy.{VertexCopy}
 use Rattle.gr_program.specs.Program.{Program}
 use Rattle.gr_copies.specs.declared.view.RebuildView.{RebuildView}
 use Rattle.gr_copies.specs.Granter.{is_retiring}
 use Rattle.std.specs.Prelude.{false}
 use Rattle.gr_log.specs.declared.record.LogRecord.{LogRecord}
-use Rattle.gr_log.specs.declared.record.LogRecord.TheVariants as item
 use Rattle.gr_log.specs.Directory.{Entry, entry_of, edge_of, with_items, directory_in, kept_edges, edges_in, KeepsEachOnce}
-use Rattle.gr_rules.specs.Rows.{entry, record_of}
+use Rattle.gr_rules.specs.Rows.{entry}
 use Rattle.gr_rules.specs.Grants.{records_after}
 use Rattle.gr_agree.specs.Truth.{Truth, entries_at, arcs_at}
 use Rattle.gr_agree.specs.Rebuilt.{true_granted, true_taken, true_records, rebuilt}
+use Rattle.gr_law_rounds.proofs.Load.Load.{entries-kept, edges-kept}
 use Rattle.gr_law_rebuilds.proofs.Restore.Fits.{Fits}
 use Rattle.gr_law_rebuilds.proofs.Restore.Layers.{entries-after}
 use Rattle.gr_law_rebuilds.proofs.Restore.Edges.{arcs-after, length-arcs_after}
-
-module _ {V : Type 0} where
-  entries-kept : (rows : List (VertexCopy V)) (arcs : List NumberedEdge) → filter_map entry_of (map record_of rows ++ map item.Kept arcs) ≡ map entry rows
-  entries-kept [] [] = refl
-  entries-kept [] (a ∷ arcs) = entries-kept [] arcs
-  entries-kept (r ∷ rows) arcs = ap (λ l. entry r ∷ l) (entries-kept rows arcs)
-
-  edges-kept : (rows : List (VertexCopy V)) (arcs : List NumberedEdge) → kept_edges (map record_of rows ++ map item.Kept arcs) ≡ arcs
-  edges-kept [] [] = refl
-  edges-kept [] (a ∷ arcs) = ap (λ l. a ∷ l) (edges-kept [] arcs)
-  edges-kept (r ∷ rows) arcs = edges-kept rows arcs
 
 directory-append : (rs ss : List LogRecord) → directory_in (rs ++ ss) ≡ with_items (λ (e : Entry). e.vertex) (filter_map entry_of ss) (directory_in rs)
 unfolding directory_in

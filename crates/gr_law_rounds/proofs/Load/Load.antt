@@ -39,7 +39,8 @@ use Rattle.gr_cluster.specs.GraphIn.{graph_of, graph_in}
 use Rattle.gr_cluster.specs.Load.{Setting, fresh_host, first_value, first_copy, first_rows, first_arcs, first_host, first_log, load}
 use Rattle.gr_agree.specs.Truth.{Truth, edge_list, held, held_at, place_of, arcs_at, true_entry, entries_at, copy_at, rows_at}
 use Rattle.gr_agree.specs.TrueRound.{active_next}
-use Rattle.gr_agree.specs.FirstTruth.{IsGraph, IsSetting, first_truth}
+use Rattle.gr_agree.specs.Accepted.{IsGraph, IsSetting}
+use Rattle.gr_agree.specs.FirstTruth.{first_truth}
 use Rattle.gr_agree.specs.Places.{sets_with}
 use Rattle.gr_agree.specs.Logs.{Sound}
 use Rattle.gr_agree.specs.Hosts.{HostOpen, pending_rows, pending_arcs}
@@ -54,6 +55,18 @@ use Rattle.gr_law_rounds.proofs.Bodies.Values.{rows-staged}
 use Rattle.gr_law_rounds.proofs.Logs.Logged.{graph-in}
 use Rattle.gr_law_rounds.proofs.Load.Ranges.{range-below, has-below, numbered-edges, numbered-numbers, numbered-length, numbered-each}
 use Rattle.gr_law_rounds.proofs.Load.Holders.{holders-places, holder-below, home-holds, ends-held}
+
+-- what records of copies and of kept edges say
+module _ {V : Type 0} where
+  pub entries-kept : (rows : List (VertexCopy V)) (arcs : List NumberedEdge) → filter_map entry_of (map record_of rows ++ map item.Kept arcs) ≡ map entry rows
+  entries-kept [] [] = refl
+  entries-kept [] (a ∷ arcs) = entries-kept [] arcs
+  entries-kept (r ∷ rows) arcs = ap (λ l. entry r ∷ l) (entries-kept rows arcs)
+
+  pub edges-kept : (rows : List (VertexCopy V)) (arcs : List NumberedEdge) → kept_edges (map record_of rows ++ map item.Kept arcs) ≡ arcs
+  edges-kept [] [] = refl
+  edges-kept [] (a ∷ arcs) = ap (λ l. a ∷ l) (edges-kept [] arcs)
+  edges-kept (r ∷ rows) arcs = edges-kept rows arcs
 
 module _ {V A : Type 0} (P : Program V A) (s : Setting) (es : List Edge) (vs : List ℕ) (IS : IsSetting s) (IG : IsGraph es vs) where
   abbrev t : Truth V
@@ -114,16 +127,6 @@ module _ {V A : Type 0} (P : Program V A) (s : Setting) (es : List Edge) (vs : L
   unfolding arcs_at
   arcs-rise p = filter-rises (λ (a : NumberedEdge). a.number) (λ a. place_of t a == p) (numbered es)
       (rises-map (λ (a : NumberedEdge). a.number) (λ q. q) (numbered es) (subst (RisesBy (λ q. q)) (sym (numbered-numbers es)) (range-rises 0 (length es))))
-
-  entries-kept : (rows : List (VertexCopy V)) (arcs : List NumberedEdge) → filter_map entry_of (map record_of rows ++ map item.Kept arcs) ≡ map entry rows
-  entries-kept [] [] = refl
-  entries-kept [] (a ∷ arcs) = entries-kept [] arcs
-  entries-kept (r ∷ rows) arcs = ap (λ l. entry r ∷ l) (entries-kept rows arcs)
-
-  edges-kept : (rows : List (VertexCopy V)) (arcs : List NumberedEdge) → kept_edges (map record_of rows ++ map item.Kept arcs) ≡ arcs
-  edges-kept [] [] = refl
-  edges-kept [] (a ∷ arcs) = ap (λ l. a ∷ l) (edges-kept [] arcs)
-  edges-kept (r ∷ rows) arcs = edges-kept rows arcs
 
   entries-of : (ws : List ℕ) (p : ℕ) → map entry (map (copy_at P t p) ws) ≡ map (true_entry t) ws
   entries-of [] p = refl

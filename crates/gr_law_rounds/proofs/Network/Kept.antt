@@ -1,9 +1,8 @@
 -- A delivery and a drop keep the invariant.
-use Rattle.std.proofs.Common.{◌≡◌, ℕ, ◌<◌, ◌≤◌, List, [], ◌∷◌, ◌++◌, Bool, true, false, ◌||◌, ◌==◌, refl, sym, ap, ◌∙◌, subst, arith, Option, Some, None, slice_get, remove, length, nat_lt, ltb-true, lt-ltb, ne_eqb}
-use Rattle.std.specs.Prelude.{is_some, IsTrue, option_map, ◌&&◌}
+use Rattle.std.proofs.Common.{◌≡◌, ℕ, ◌<◌, ◌≤◌, List, [], ◌∷◌, ◌++◌, Bool, true, false, ◌||◌, ◌==◌, refl, sym, ap, ◌∙◌, subst, arith, Option, Some, None, slice_get, remove, nat_lt, ltb-true, lt-ltb, ne_eqb}
+use Rattle.std.specs.Prelude.{is_some, IsTrue}
 use Rattle.std.specs.List.{list_any}
 use Rattle.std.proofs.lemmas.Bool.{and_left, and_right, or_right, cond-true}
-use Rattle.std.proofs.lemmas.List.{length-set}
 use Rattle.gr_base.specs.Rising.{has}
 use Rattle.gr_base.proofs.Union.{has-union}
 use Rattle.gr_program.specs.Program.{Program}
@@ -13,18 +12,20 @@ use Rattle.gr_batch.specs.Bodies.{is_from, is_of}
 use Rattle.gr_sched.specs.declared.event.Event.TheVariants as event
 use Rattle.gr_view.specs.Modes.{is_over}
 use Rattle.gr_view.specs.Decisions.{parties}
-use Rattle.gr_cluster.specs.Tables.{Host, Cluster, host, is_up, log, with_host, effective, effective_arcs, view_of, wanted_in}
+use Rattle.gr_cluster.specs.Tables.{Host, Cluster, host, is_up, log, with_host, view_of, wanted_in}
 use Rattle.gr_cluster.specs.Network.{received, delivered, dropped}
 use Rattle.gr_cluster.specs.Step.{step}
 use Rattle.gr_agree.specs.Truth.{Truth}
-use Rattle.gr_agree.specs.Places.{Shaped, PlacesHold, sets_with}
-use Rattle.gr_agree.specs.Hosts.{HasNeeded, HostHolds, HostOpen, RebornHolds}
+use Rattle.gr_agree.specs.Places.{sets_with}
+use Rattle.gr_agree.specs.Hosts.{HasNeeded, HostOpen}
 use Rattle.gr_agree.specs.Agree.{Agree}
 use Rattle.gr_law_rounds.specs.Network.{IsKept}
 use Rattle.gr_lists.proofs.Tests.{by_test, by_option}
-use Rattle.gr_law_rounds.proofs.Network.Frame.{within, with_host-same, host-with_host, host-with_host-other, each-host, same-of-host}
+use Rattle.gr_law_rounds.proofs.Network.Frame.{within, with_host-same, host-with_host, host-with_host-other}
+use Rattle.gr_law_rounds.proofs.Network.Same.{unmoved, line-same}
 use Rattle.gr_law_rounds.proofs.Network.Removal.{network-removed}
 use Rattle.gr_law_rounds.proofs.Network.Taken.{network-taken}
+use Rattle.gr_law_rounds.proofs.Round.Changed.{reports-same, changed-kept}
 
 list_any-append : {X : Type 0} (f : X → Bool) (xs ys : List X) → list_any f (xs ++ ys) ≡ (list_any f xs || list_any f ys)
 list_any-append f [] ys = refl
@@ -32,44 +33,16 @@ list_any-append f (x ∷ xs) ys = by_test (f x) (λ e. rw e refl) (λ e. rw e (l
 
 module _ {V A : Type 0} (P : Program V A) (t : Truth V) (c : Cluster V A) (AG : Agree P t c) where
   pub kept-same : IsKept P t c c
-  kept-same = (
-    record {
-      rows = λ p. refl;
-      arcs = λ p. refl;
-      logs = λ p. refl;
-      spares = refl;
-      live = refl;
-      dead = refl;
-      retired = refl;
-      reborn = refl;
-    },
-    AG,
-  )
+  kept-same = (unmoved c c refl refl refl refl, AG)
 
   -- a batch that binds nobody leaves the flight
   kept-removed : (b : Batch V A) (i : ℕ) → slice_get c.flight i ≡ Some b
       → ((p q : ℕ) (s : Stage) → IsTrue (is_up c p) → IsTrue (is_up c q) → is_from p q c.coordinator.epoch s b ≡ false)
       → IsKept P t c (record c { flight = remove c.flight i })
   kept-removed b i is free = (
+    unmoved c (record c { flight = remove c.flight i }) refl refl refl refl,
     record {
-      rows = λ p. refl;
-      arcs = λ p. refl;
-      logs = λ p. refl;
-      spares = refl;
-      live = refl;
-      dead = refl;
-      retired = refl;
-      reborn = refl;
-    },
-    record {
-      committed = record {
-        shaped = AG.committed.shaped;
-        places = AG.committed.places;
-        sound = AG.committed.sound;
-        logs = AG.committed.logs;
-        hosts = AG.committed.hosts;
-        round = AG.committed.round;
-      };
+      committed = let K = AG.committed in record { shaped = K.shaped; places = K.places; sound = K.sound; logs = K.logs; hosts = K.hosts; round = K.round };
       open_work = record {
         network = network-removed P (view_of P c) (wanted_in P c) t c.coordinator (host c) c.flight AG.open_work.network b i is free;
         hosts = AG.open_work.hosts;
@@ -106,60 +79,19 @@ module _ {V A : Type 0} (P : Program V A) (t : Truth V) (c : Cluster V A) (AG : 
     open-given O = record {
       epoch = O.epoch;
       installed = O.installed;
-      at_epoch = λ e. let E = O.at_epoch e in record {
-        installed = E.installed;
-        stage = E.stage;
-        idle = E.idle;
-        not_sent = E.not_sent;
-        unsent_left = E.unsent_left;
-        needed = λ s has lt. needed-more _ h.epoch h.inbox (b ∷ []) _ (E.needed s has lt);
-        rows = E.rows;
-        arcs = E.arcs;
-        tail = E.tail;
-        not_torn = E.not_torn;
-        reported = E.reported;
-      };
+      at_epoch = λ e. let E = O.at_epoch e in let co = c.coordinator in let l = log c b.receiver in
+          line-same P (view_of P c) (wanted_in P c) t co co.ready co.due b.receiver h given.inbox h.sent h.appended h.reported l l E.not_sent E.unsent_left
+          (λ s has lt. needed-more _ h.epoch h.inbox (b ∷ []) _ (E.needed s has lt)) E.tail E.not_torn E.reported E;
     }
 
     kept-given : IsKept P t c after
-    kept-given = (
-      record {
-        rows = same-of-host c b.receiver h given at (λ o. option_map (effective c.coordinator.commits) o) refl;
-        arcs = same-of-host c b.receiver h given at (λ o. option_map (effective_arcs c.coordinator.commits) o) refl;
-        logs = λ p. refl;
-        spares = refl;
-        live = refl;
-        dead = refl;
-        retired = refl;
-        reborn = refl;
-      },
-      record {
-        committed = record {
-          shaped = subst (λ n. Shaped c.places n (length c.logs) c.coordinator) (sym (length-set c.hosts b.receiver (Some given))) AG.committed.shaped;
-          places = subst (λ up. PlacesHold c.places up c.coordinator) (λ j q. sym (same-of-host c b.receiver h given at is_some refl q) j) AG.committed.places;
-          sound = AG.committed.sound;
-          logs = AG.committed.logs;
-          hosts = each-host c b.receiver h given at (λ q k. IsTrue (has c.coordinator.live q) → HostHolds P t c.coordinator.commits q k)
-              (λ live. let H = AG.committed.hosts b.receiver h at live in record { rows = H.rows; arcs = H.arcs }) AG.committed.hosts;
-          round = AG.committed.round;
-        };
-        open_work = record {
-          network = network-taken P (view_of P c) (wanted_in P c) t c.coordinator (host c) (host after) c.flight b i is h at (host-with_host c b.receiver h given at) (host-with_host-other c b.receiver h given at) AG.open_work.network;
-          hosts = each-host c b.receiver h given at (λ q k. IsTrue (has (parties c.coordinator) q) → HostOpen P (view_of P c) (wanted_in P c) t c.coordinator q k (log c q))
-              (λ party. open-given (AG.open_work.hosts b.receiver h at party)) AG.open_work.hosts;
-          reborn = each-host c b.receiver h given at (λ q k. IsTrue (has c.coordinator.reborn q) → RebornHolds c.coordinator.epoch k (log c q))
-              (λ is_reborn. let R = AG.open_work.reborn b.receiver h at is_reborn in record { epoch = R.epoch; rows = R.rows; arcs = R.arcs }) AG.open_work.reborn;
-          end = AG.open_work.end;
-          reports = record {
-            ready = each-host c b.receiver h given at (λ q k. IsTrue (has (parties c.coordinator) q) → has c.coordinator.ready q ≡ ((k.epoch == c.coordinator.epoch) && k.reported))
-                (AG.open_work.reports.ready b.receiver h at) AG.open_work.reports.ready;
-            none = AG.open_work.reports.none;
-            due = AG.open_work.reports.due;
-            due_bounded = AG.open_work.reports.due_bounded;
-          };
-        };
-      },
-    )
+    kept-given =
+        let co = c.coordinator in
+        changed-kept P t c AG b.receiver h given at c.logs refl (λ q. refl) (λ q ne. refl) (remove c.flight i) c.serial co.ready co.due refl refl AG.committed.shaped.ready
+        (λ party. open-given (AG.open_work.hosts b.receiver h at party))
+        (λ is_reborn. let R = AG.open_work.reborn b.receiver h at is_reborn in record { epoch = R.epoch; rows = R.rows; arcs = R.arcs })
+        (network-taken P (view_of P c) (wanted_in P c) t co (host c) (host after) c.flight b i is h at (host-with_host c b.receiver h given at) (host-with_host-other c b.receiver h given at) AG.open_work.network)
+        (reports-same P t c AG b.receiver h given at refl)
 
   -- the host at a place is as it was
   unchanged : (b : Batch V A) (i : ℕ) (o : Option (Host V A)) → host c b.receiver ≡ o → IsKept P t c (record c { flight = remove c.flight i })

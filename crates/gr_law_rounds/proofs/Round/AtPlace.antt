@@ -1,5 +1,5 @@
 -- What a party that has adopted the epoch of a round stages and sends.
-use Rattle.std.proofs.Common.{◌≡◌, ℕ, zero, suc, ◌+◌, ◌<◌, ◌≤◌, List, ◌++◌, true, false, filter_map, flat_map, refl, sym, ap, ◌∙◌, subst, arith, Option, Some, None}
+use Rattle.std.proofs.Common.{◌≡◌, ℕ, ◌+◌, ◌<◌, ◌≤◌, List, ◌++◌, true, false, cond, filter_map, flat_map, refl, ap, ◌∙◌, subst, arith, Option, Some, eqb-true}
 use Rattle.std.specs.Prelude.{IsTrue}
 use Rattle.std.specs.List.{AllByRecursion as Each, list_any}
 use Rattle.gr_base.specs.declared.records.NumberedEdge.{NumberedEdge}
@@ -11,7 +11,7 @@ use Rattle.gr_copies.specs.declared.view.RebuildView.{RebuildView}
 use Rattle.gr_batch.specs.declared.batch.Batch.{Batch}
 use Rattle.gr_batch.specs.declared.stage.Stage.{Stage}
 use Rattle.gr_batch.specs.declared.stage.Stage.TheVariants as stage
-use Rattle.gr_batch.specs.Stages.{place_in, code_of, is_end, stage_after}
+use Rattle.gr_batch.specs.Stages.{place_in, code_of, is_end}
 use Rattle.gr_batch.specs.Bodies.{is_of, stage_of_body, values_of, signals_of, calls_of}
 use Rattle.gr_view.specs.declared.coordinator.Coordinator.{Coordinator}
 use Rattle.gr_view.specs.declared.coordinator.Mode.TheVariants as mode
@@ -20,12 +20,13 @@ use Rattle.gr_rules.specs.Inbox.{bodies}
 use Rattle.gr_rules.specs.Round.{gather_body, new_values, update_body, signal_body, call_body}
 use Rattle.gr_rules.specs.AtPlace.{round_rows, round_body}
 use Rattle.gr_rules.specs.Exchange.{needed}
+use Rattle.gr_cluster.specs.Tables.{Host}
 use Rattle.gr_cluster.specs.Stages.{stages_of, has_stage}
 use Rattle.gr_agree.specs.Truth.{Truth, place_of, rows_at, arcs_at}
 use Rattle.gr_agree.specs.TrueRound.{staged, true_values, true_signals, true_calls}
 use Rattle.gr_agree.specs.TrueBody.{TrueBody}
 use Rattle.gr_agree.specs.Logs.{Sound}
-use Rattle.gr_agree.specs.Hosts.{HasNeeded}
+use Rattle.gr_agree.specs.Hosts.{progress, HasNeeded}
 use Rattle.gr_agree.specs.Network.{BatchHolds}
 use Rattle.gr_lists.proofs.Each.{Each-has}
 use Rattle.gr_law_rounds.proofs.Bodies.Fold.{occurs}
@@ -34,6 +35,7 @@ use Rattle.gr_law_rounds.proofs.Bodies.Rows.{gathers_of, gather-body_at}
 use Rattle.gr_law_rounds.proofs.Bodies.Values.{own_line, new-values_at, update-staged, update-body_at, rows-staged}
 use Rattle.gr_law_rounds.proofs.Bodies.Signals.{all_lines, own_due, signal-body_at, call-body_at}
 use Rattle.gr_law_rounds.proofs.Bodies.Staging.{signal-staged, end-staged}
+use Rattle.gr_law_rounds.proofs.Round.Codes.{same-code}
 use Rattle.gr_law_rounds.proofs.Round.Brought.{brought-gathers, brought-values, brought-signals, brought-calls}
 
 -- a stage of a round
@@ -42,51 +44,14 @@ IsRoundStage s = IsTrue (has_stage (stages_of mode.Running) s)
 
 pub place-le : (s : Stage) → place_in s ≤ 4
 place-le stage.Gather = omega arith
-place-le stage.Update = omega arith
-place-le stage.Signal = omega arith
-place-le stage.Call = omega arith
-place-le stage.Ask = omega arith
-place-le stage.Grant = omega arith
-place-le stage.End = omega arith
-
--- of a round the stages at one place need the same
-needed-at : ℕ → Option Stage
-needed-at zero = None
-needed-at (suc zero) = Some stage.Gather
-needed-at (suc (suc zero)) = Some stage.Update
-needed-at (suc (suc (suc zero))) = Some stage.Signal
-needed-at (suc (suc (suc (suc k)))) = Some stage.Call
-
-needed-place : (s : Stage) → IsRoundStage s → needed false s ≡ needed-at (place_in s)
-unfolding needed-at
-needed-place stage.Gather r = refl
-needed-place stage.Update r = refl
-needed-place stage.Signal r = refl
-needed-place stage.Call r = refl
-needed-place stage.End r = refl
-needed-place stage.Ask r = absurd (let bad : false ≡ true = r in cc)
-needed-place stage.Grant r = absurd (let bad : false ≡ true = r in cc)
-
-pub same-need : (a b : Stage) → IsRoundStage a → IsRoundStage b → place_in a ≡ place_in b → needed false a ≡ needed false b
-same-need a b ra rb e = needed-place a ra ∙ (ap needed-at e ∙ sym (needed-place b rb))
-
-pub after-place : (s : Stage) → IsRoundStage s → is_end s ≡ false → (place_in (stage_after s) ≡ place_in s + 1) × IsRoundStage (stage_after s)
-after-place stage.Gather r e = (refl, refl)
-after-place stage.Update r e = (refl, refl)
-after-place stage.Signal r e = (refl, refl)
-after-place stage.Call r e = (refl, refl)
-after-place stage.End r e = absurd (let bad : true ≡ false = e in cc)
-after-place stage.Ask r e = absurd (let bad : false ≡ true = r in cc)
-after-place stage.Grant r e = absurd (let bad : false ≡ true = r in cc)
+place-le _ = omega arith
 
 pub end-place : (s : Stage) → is_end s ≡ true → place_in s ≡ 4
-end-place stage.End e = refl
-end-place stage.Gather e = absurd (let bad : false ≡ true = e in cc)
-end-place stage.Update e = absurd (let bad : false ≡ true = e in cc)
-end-place stage.Signal e = absurd (let bad : false ≡ true = e in cc)
-end-place stage.Call e = absurd (let bad : false ≡ true = e in cc)
-end-place stage.Ask e = absurd (let bad : false ≡ true = e in cc)
-end-place stage.Grant e = absurd (let bad : false ≡ true = e in cc)
+end-place s e = ap place_in (same-code s stage.End (eqb-true (code_of s) 6 e))
+
+-- all stages are computed
+pub five : {V A : Type 0} (h : Host V A) → h.computed ≡ true → is_end h.stage ≡ true → progress h ≡ 5
+five h comp end = let four = end-place h.stage end in let one : progress h ≡ place_in h.stage + 1 = ap (λ b. place_in h.stage + cond b 1 0) comp in omega (arith, four, one)
 
 module _ {V A : Type 0} (P : Program V A) (t : Truth V) (w : RebuildView) (want : ℕ) (co : Coordinator) (L : ProgramLaws P) (S : Sound P t) (N : Steady P t) (p : ℕ) (ps : List ℕ)
     (mastered : (v : ℕ) → has t.vertices v ≡ true → has ps (t.master v) ≡ true) (once : occurs p ps ≡ 1) (placed : Each (λ a. occurs (place_of t a) ps ≡ 1) t.edges)
@@ -155,10 +120,7 @@ module _ {V A : Type 0} (P : Program V A) (t : Truth V) (w : RebuildView) (want 
   round-body-true theta th stage.Grant r n before q = absurd (let bad : false ≡ true = r in cc)
 
   pub round-body-code : (theta : ℕ) (s : Stage) → IsRoundStage s → is_end s ≡ false → (q : ℕ) → code_of (stage_of_body (round_body P p e others inbox rows arcs theta q s)) ≡ code_of s
-  round-body-code theta stage.Gather r n q = refl
-  round-body-code theta stage.Update r n q = refl
-  round-body-code theta stage.Signal r n q = refl
-  round-body-code theta stage.Call r n q = refl
   round-body-code theta stage.End r n q = absurd (let bad : true ≡ false = n in cc)
   round-body-code theta stage.Ask r n q = absurd (let bad : false ≡ true = r in cc)
   round-body-code theta stage.Grant r n q = absurd (let bad : false ≡ true = r in cc)
+  round-body-code theta _ r n q = refl

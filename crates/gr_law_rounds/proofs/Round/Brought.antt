@@ -1,11 +1,10 @@
 -- What the inbox of a place brings in a round, where its batches of the present epoch are true.
-use Rattle.std.proofs.Common.{◌≡◌, ℕ, List, [], ◌∷◌, ◌++◌, true, map, flat_map, refl, ap, ◌∙◌, subst, arith, Some, None}
+use Rattle.std.proofs.Common.{◌≡◌, ℕ, List, [], ◌∷◌, ◌++◌, true, map, flat_map, refl, ap, ◌∙◌, subst, Some, None}
 use Rattle.std.specs.List.{AllByRecursion as Each, list_any, find}
 use Rattle.gr_program.specs.Program.{Program}
 use Rattle.gr_copies.specs.declared.view.RebuildView.{RebuildView}
 use Rattle.gr_batch.specs.declared.batch.Batch.{Batch}
 use Rattle.gr_batch.specs.declared.body.Body.{Body}
-use Rattle.gr_batch.specs.declared.body.Body.TheVariants as body
 use Rattle.gr_batch.specs.declared.stage.Stage.{Stage}
 use Rattle.gr_batch.specs.declared.stage.Stage.TheVariants as stage
 use Rattle.gr_batch.specs.Stages.{code_of}
@@ -13,45 +12,13 @@ use Rattle.gr_batch.specs.Bodies.{stage_of_body, is_of, values_of, signals_of, c
 use Rattle.gr_view.specs.declared.coordinator.Coordinator.{Coordinator}
 use Rattle.gr_rules.specs.Inbox.{batch_from, bodies}
 use Rattle.gr_agree.specs.Truth.{Truth}
-use Rattle.gr_agree.specs.TrueRound.{true_parts, true_values, true_signals, true_calls}
+use Rattle.gr_agree.specs.TrueRound.{true_values, true_signals, true_calls}
 use Rattle.gr_agree.specs.TrueBody.{TrueBody}
 use Rattle.gr_agree.specs.Network.{BatchHolds}
 use Rattle.gr_lists.proofs.Any.{find-any}
 use Rattle.gr_law_rounds.proofs.Bodies.Rows.{gathers_of}
+use Rattle.gr_law_rounds.proofs.Round.Codes.{said-of}
 use Rattle.gr_law_rounds.proofs.Round.Network.{of-parts}
-
-module _ {V A : Type 0} (P : Program V A) (w : RebuildView) (want : ℕ) (t : Truth V) (q p : ℕ) where
-  pub gather-true : (b : Body V A) → TrueBody P w want t q p b → 0 ≡ code_of (stage_of_body b) → b ≡ body.Gather (true_parts P t q p)
-  gather-true (body.Gather xs) h e = ap body.Gather h
-  gather-true (body.Update xs) h e = absurd (omega (arith, e))
-  gather-true (body.Signal xs) h e = absurd (omega (arith, e))
-  gather-true (body.Call xs) h e = absurd (omega (arith, e))
-  gather-true (body.Ask xs) h e = absurd (omega (arith, e))
-  gather-true (body.Grant xs) h e = absurd (omega (arith, e))
-
-  pub values-true : (b : Body V A) → TrueBody P w want t q p b → 1 ≡ code_of (stage_of_body b) → values_of b ≡ true_values P t q p
-  values-true (body.Update xs) h e = h
-  values-true (body.Gather xs) h e = absurd (omega (arith, e))
-  values-true (body.Signal xs) h e = absurd (omega (arith, e))
-  values-true (body.Call xs) h e = absurd (omega (arith, e))
-  values-true (body.Ask xs) h e = absurd (omega (arith, e))
-  values-true (body.Grant xs) h e = absurd (omega (arith, e))
-
-  pub signals-true : (b : Body V A) → TrueBody P w want t q p b → 2 ≡ code_of (stage_of_body b) → signals_of b ≡ true_signals P t q p
-  signals-true (body.Signal xs) h e = h
-  signals-true (body.Gather xs) h e = absurd (omega (arith, e))
-  signals-true (body.Update xs) h e = absurd (omega (arith, e))
-  signals-true (body.Call xs) h e = absurd (omega (arith, e))
-  signals-true (body.Ask xs) h e = absurd (omega (arith, e))
-  signals-true (body.Grant xs) h e = absurd (omega (arith, e))
-
-  pub calls-true : (b : Body V A) → TrueBody P w want t q p b → 3 ≡ code_of (stage_of_body b) → calls_of b ≡ true_calls P t q p
-  calls-true (body.Call xs) h e = h
-  calls-true (body.Gather xs) h e = absurd (omega (arith, e))
-  calls-true (body.Update xs) h e = absurd (omega (arith, e))
-  calls-true (body.Signal xs) h e = absurd (omega (arith, e))
-  calls-true (body.Ask xs) h e = absurd (omega (arith, e))
-  calls-true (body.Grant xs) h e = absurd (omega (arith, e))
 
 module _ {V A : Type 0} (P : Program V A) (w : RebuildView) (want : ℕ) (t : Truth V) (co : Coordinator) (p : ℕ) (inbox : List (Batch V A))
     (good : Each (λ b. BatchHolds P w want t co b × (b.receiver ≡ p)) inbox) where
@@ -88,13 +55,13 @@ module _ {V A : Type 0} (P : Program V A) (w : RebuildView) (want : ℕ) (t : Tr
   brought-gathers (q ∷ qs) h =
       let f = find-any (is_of q co.epoch stage.Gather) _ inbox h.0 good in
       let k = true-there q stage.Gather f.0 f.2 f.3 in
-      bodies-cons stage.Gather q qs f.0 f.1 ∙ (λ i. gather-true P w want t q p (f.0).body k.0 k.1 i ∷ brought-gathers qs h.1 i)
+      bodies-cons stage.Gather q qs f.0 f.1 ∙ (λ i. said-of P w want t q p stage.Gather (f.0).body k.0 k.1 i ∷ brought-gathers qs h.1 i)
 
   pub brought-values : (qs : List ℕ) → Brought stage.Update qs → flat_map values_of (bodies inbox co.epoch stage.Update qs) ≡ flat_map (λ q. true_values P t q p) qs
-  brought-values = brought-lists values_of (λ q. true_values P t q p) stage.Update (λ q. values-true P w want t q p)
+  brought-values = brought-lists values_of (λ q. true_values P t q p) stage.Update (λ q. said-of P w want t q p stage.Update)
 
   pub brought-signals : (qs : List ℕ) → Brought stage.Signal qs → flat_map signals_of (bodies inbox co.epoch stage.Signal qs) ≡ flat_map (λ q. true_signals P t q p) qs
-  brought-signals = brought-lists signals_of (λ q. true_signals P t q p) stage.Signal (λ q. signals-true P w want t q p)
+  brought-signals = brought-lists signals_of (λ q. true_signals P t q p) stage.Signal (λ q. said-of P w want t q p stage.Signal)
 
   pub brought-calls : (qs : List ℕ) → Brought stage.Call qs → flat_map calls_of (bodies inbox co.epoch stage.Call qs) ≡ flat_map (λ q. true_calls P t q p) qs
-  brought-calls = brought-lists calls_of (λ q. true_calls P t q p) stage.Call (λ q. calls-true P w want t q p)
+  brought-calls = brought-lists calls_of (λ q. true_calls P t q p) stage.Call (λ q. said-of P w want t q p stage.Call)

@@ -1,18 +1,18 @@
 -- A cluster in which one host has changed, and with it the tail of its log, the flight and what was reported.
-use Rattle.std.proofs.Common.{◌≡◌, ◌≢◌, ℕ, List, refl, sym, ap, ◌∙◌, subst, Some, set, length}
+use Rattle.std.proofs.Common.{◌≡◌, ◌≢◌, ℕ, ◌==◌, ◌&&◌, List, refl, sym, ap, ◌∙◌, subst, Some, set, length}
 use Rattle.std.specs.Prelude.{is_some, IsTrue, option_map}
 use Rattle.std.proofs.lemmas.List.{length-set}
 use Rattle.gr_base.specs.Places.{IsPlaces}
 use Rattle.gr_base.specs.Rising.{has}
 use Rattle.gr_program.specs.Program.{Program}
 use Rattle.gr_log.specs.Log.{Log}
-use Rattle.gr_log.specs.Directory.{directory_in, edges_in, KeepsEachOnce}
+use Rattle.gr_log.specs.Directory.{edges_in}
 use Rattle.gr_batch.specs.declared.batch.Batch.{Batch}
 use Rattle.gr_view.specs.declared.coordinator.Coordinator.{Coordinator}
 use Rattle.gr_view.specs.Decisions.{parties}
 use Rattle.gr_rules.specs.Rows.{blank_rows}
 use Rattle.gr_rules.specs.Taken.{log_at}
-use Rattle.gr_cluster.specs.Tables.{Host, Cluster, host, log, inbox_of, effective, effective_arcs, view_of, wanted_in}
+use Rattle.gr_cluster.specs.Tables.{Host, Cluster, host, is_up, log, with_host, inbox_of, effective, effective_arcs, view_of, wanted_in}
 use Rattle.gr_agree.specs.Truth.{Truth}
 use Rattle.gr_agree.specs.Hosts.{HostHolds, RebornHolds, HostOpen}
 use Rattle.gr_agree.specs.Network.{BatchHolds, NetworkHolds}
@@ -20,8 +20,19 @@ use Rattle.gr_agree.specs.Reports.{ReportsHold}
 use Rattle.gr_agree.specs.Agree.{Agree}
 use Rattle.gr_law_rounds.specs.Network.{IsKept}
 use Rattle.gr_law_rounds.proofs.Network.Frame.{host-with_host, host-with_host-other, each-host, same-of-host}
+use Rattle.gr_law_rounds.proofs.Network.Same.{committed-same, shaped-same, places-same, logs-same, line-same}
 use Rattle.gr_lists.proofs.Each.{Each-weaker}
 use Rattle.gr_lists.proofs.Tests.{by_same}
+
+module _ {V A : Type 0} (P : Program V A) (t : Truth V) (c : Cluster V A) (AG : Agree P t c) (p : ℕ) (h h' : Host V A) (at : host c p ≡ Some h) where
+  -- what each host reports, where that at p does as it did
+  pub reports-same : ((h'.epoch == c.coordinator.epoch) && h'.reported) ≡ ((h.epoch == c.coordinator.epoch) && h.reported) → ReportsHold P t c.coordinator (host (with_host p (Some h') c))
+  reports-same e = let R = AG.open_work.reports in record {
+    ready = each-host c p h h' at (λ q k. IsTrue (has (parties c.coordinator) q) → has c.coordinator.ready q ≡ ((k.epoch == c.coordinator.epoch) && k.reported)) (λ y. R.ready p h at y ∙ sym e) R.ready;
+    none = R.none;
+    due = R.due;
+    due_bounded = R.due_bounded;
+  }
 
 module _ {V A : Type 0} (P : Program V A) (t : Truth V) (c : Cluster V A) (AG : Agree P t c) (p : ℕ) (h h' : Host V A) (at : host c p ≡ Some h)
     (logs : List Log) (as_many : length logs ≡ length c.logs) (committed : (q : ℕ) → (log_at logs q).committed ≡ (log c q).committed) (elsewhere : (q : ℕ) → q ≢ p → log_at logs q ≡ log c q)
@@ -37,19 +48,8 @@ module _ {V A : Type 0} (P : Program V A) (t : Truth V) (c : Cluster V A) (AG : 
   open-reported q k l O = record {
     epoch = O.epoch;
     installed = O.installed;
-    at_epoch = λ e. let E = O.at_epoch e in record {
-      installed = E.installed;
-      stage = E.stage;
-      idle = E.idle;
-      not_sent = E.not_sent;
-      unsent_left = E.unsent_left;
-      needed = E.needed;
-      rows = E.rows;
-      arcs = E.arcs;
-      tail = E.tail;
-      not_torn = E.not_torn;
-      reported = E.reported;
-    };
+    at_epoch = λ e. let E = O.at_epoch e in
+        line-same P (view_of P c) (wanted_in P c) t c.coordinator ready due q k k.inbox k.sent k.appended k.reported l l E.not_sent E.unsent_left E.needed E.tail E.not_torn E.reported E;
   }
 
   batch-reported : (b : Batch V A) → BatchHolds P (view_of P c) (wanted_in P c) t c.coordinator b → BatchHolds P (view_of P c) (wanted_in P c) t reported_co b
@@ -88,47 +88,15 @@ module _ {V A : Type 0} (P : Program V A) (t : Truth V) (c : Cluster V A) (AG : 
       → ReportsHold P t reported_co (host changed)
       → IsKept P t c changed
   changed-kept rows arcs set_ready opened reborn network reports = (
-    record {
-      rows = same-of-host c p h h' at (λ o. option_map (effective c.coordinator.commits) o) (ap Some rows);
-      arcs = same-of-host c p h h' at (λ o. option_map (effective_arcs c.coordinator.commits) o) (ap Some arcs);
-      logs = committed;
-      spares = refl;
-      live = refl;
-      dead = refl;
-      retired = refl;
-      reborn = refl;
-    },
+    committed-same c changed refl (same-of-host c p h h' at (λ o. option_map (effective c.coordinator.commits) o) (ap Some rows))
+        (same-of-host c p h h' at (λ o. option_map (effective_arcs c.coordinator.commits) o) (ap Some arcs)) committed,
     record {
       committed = record {
-        shaped = let S = AG.committed.shaped in record {
-          few = S.few;
-          hosts = length-set c.hosts p (Some h') ∙ S.hosts;
-          logs = as_many ∙ S.logs;
-          live = S.live;
-          dead = S.dead;
-          retired = S.retired;
-          reborn = S.reborn;
-          ready = set_ready;
-        };
-        places = let up = same-of-host c p h h' at is_some refl in let L = AG.committed.places in record {
-          one_set = L.one_set;
-          reborn_dead = L.reborn_dead;
-          none_dead = L.none_dead;
-          none_reborn = L.none_reborn;
-          retired_down = λ q r. up q ∙ L.retired_down q r;
-          dead_down = λ q d r. up q ∙ L.dead_down q d r;
-          done_up = λ m q l. up q ∙ L.done_up m q l;
-          spares = L.spares;
-        };
+        shaped = shaped-same c.coordinator reported_co refl (length-set c.hosts p (Some h')) as_many set_ready AG.committed.shaped;
+        places = let up = same-of-host c p h h' at is_some refl in let L = AG.committed.places in
+            places-same c.coordinator reported_co refl (is_up c) (is_up changed) (λ q down. up q ∙ down) L.none_dead L.none_reborn (λ m q l. up q ∙ L.done_up m q l) L;
         sound = AG.committed.sound;
-        logs = let G = AG.committed.logs in record {
-          theta = G.theta;
-          holders = G.holders;
-          alive = G.alive;
-          entries = λ q lt r. ap directory_in (committed q) ∙ G.entries q lt r;
-          edges = λ q lt r. ap edges_in (committed q) ∙ G.edges q lt r;
-          edges_once = λ q lt r. subst KeepsEachOnce (sym (committed q)) (G.edges_once q lt r);
-        };
+        logs = logs-same t c.coordinator reported_co (log c) (log changed) refl committed AG.committed.logs.alive AG.committed.logs;
         hosts = each-host c p h h' at (λ q k. IsTrue (has c.coordinator.live q) → HostHolds P t c.coordinator.commits q k)
             (λ live. let H = AG.committed.hosts p h at live in record { rows = rows ∙ H.rows; arcs = arcs ∙ H.arcs }) AG.committed.hosts;
         round = record { state = AG.committed.round.state; settled = AG.committed.round.settled };

@@ -1,13 +1,14 @@
 -- What the invariant says of the parties while no rebuild is open, and of a place's rows.
-use Rattle.std.proofs.Common.{◌≡◌, ◌≢◌, ℕ, ◌+◌, [], true, false, cond, ◌==◌, nat_lt, refl, sym, ap, ◌∙◌, arith, Some, ne_eqb, lt-ltb}
+use Rattle.std.proofs.Common.{◌≡◌, ◌≢◌, ℕ, ◌+◌, [], true, false, cond, ◌==◌, ◌||◌, nat_lt, refl, sym, ap, ◌∙◌, arith, Some, ne_eqb, lt-ltb}
 use Rattle.std.specs.List.{AllByRecursion as Each}
+use Rattle.std.proofs.Math.Bool.{or-false}
 use Rattle.std.proofs.lemmas.Bool.{cond-true}
 use Rattle.gr_base.specs.Rising.{RisesBy, has, union}
 use Rattle.gr_base.proofs.Union.{union-rises, union-nil}
 use Rattle.gr_program.specs.Program.{Program, ProgramLaws}
 use Rattle.gr_view.specs.declared.coordinator.Mode.{Mode}
 use Rattle.gr_view.specs.declared.coordinator.Mode.TheVariants as mode
-use Rattle.gr_view.specs.Modes.{is_open, is_rebuild}
+use Rattle.gr_view.specs.Modes.{is_open, is_round, is_rebuild}
 use Rattle.gr_view.specs.Decisions.{parties}
 use Rattle.gr_cluster.specs.Tables.{Host, Cluster, host}
 use Rattle.gr_agree.specs.Truth.{Truth, high, place_of, rows_at, arcs_at}
@@ -24,14 +25,13 @@ use Rattle.gr_law_rounds.proofs.Network.Kept.{up-party}
 pub not-recovering : (m : Mode) → is_rebuild m ≡ false → m ≢ mode.Recovering
 not-recovering m e is = let bad : true ≡ false = sym (ap is_rebuild is) ∙ e in cc
 
+pub is-round : (m : Mode) → is_round m ≡ true → m ≡ mode.Running
+is-round mode.Running y = refl
+is-round _ y = absurd (let bad : false ≡ true = y in cc)
+
 -- where work is open and no rebuild is, a round is
 pub is-running : (m : Mode) → is_rebuild m ≡ false → is_open m ≡ true → m ≡ mode.Running
-is-running mode.Running e o = refl
-is-running mode.Failed e o = absurd (let bad : false ≡ true = o in cc)
-is-running mode.Recovering e o = absurd (let bad : true ≡ false = e in cc)
-is-running mode.Repairing e o = absurd (let bad : true ≡ false = e in cc)
-is-running mode.Done e o = absurd (let bad : false ≡ true = o in cc)
-is-running mode.Lost e o = absurd (let bad : false ≡ true = o in cc)
+is-running m e o = is-round m (sym (or-false (is_round m)) ∙ (sym (ap (λ b. is_round m || b) e) ∙ o))
 
 module _ {V A : Type 0} (P : Program V A) (t : Truth V) (c : Cluster V A) (AG : Agree P t c) (no_rebuild : is_rebuild c.coordinator.mode ≡ false) where
   pub no-reborn : c.coordinator.reborn ≡ []

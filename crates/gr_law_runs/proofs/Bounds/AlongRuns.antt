@@ -13,7 +13,7 @@ use Rattle.gr_cluster.specs.Tables.{Cluster}
 use Rattle.gr_cluster.specs.Load.{Setting, first_host, load}
 use Rattle.gr_cluster.specs.Step.{step}
 use Rattle.gr_cluster.specs.Runs.{Position, next_event, position_by, next_position, position_after, steps_of}
-use Rattle.gr_agree.specs.FirstTruth.{IsGraph, IsSetting}
+use Rattle.gr_agree.specs.Accepted.{IsGraph, IsSetting}
 use Rattle.gr_agree.specs.Bounds.{HidesUnread, DeliversHidden, HidesAlong}
 use Rattle.gr_lists.proofs.Each.{Each-always}
 use Rattle.gr_lists.proofs.Maps.{Each-map}
@@ -30,22 +30,7 @@ module _ {V A : Type 0} (P : Program V A) (L : ProgramLaws P) (forgetful : P.for
 
   told-hidden : (o : Outcome V A) → TellsOf Hides o → DeliversHidden es o
   told-hidden (outcome.Delivered b f) k = k
-  told-hidden outcome.Idle k = tt
-  told-hidden (outcome.Installed n) k = tt
-  told-hidden (outcome.Adopted n) k = tt
-  told-hidden (outcome.Computed s) k = tt
-  told-hidden (outcome.Sent n s q) k = tt
-  told-hidden (outcome.Appended n) k = tt
-  told-hidden (outcome.Ready n) k = tt
-  told-hidden (outcome.Waiting s q) k = tt
-  told-hidden (outcome.Dropped n) k = tt
-  told-hidden (outcome.Crashed n) k = tt
-  told-hidden (outcome.Failed ps) k = tt
-  told-hidden (outcome.Committed n r x) k = tt
-  told-hidden (outcome.NotReady p) k = tt
-  told-hidden (outcome.Opened n) k = tt
-  told-hidden (outcome.LostFound n) k = tt
-  told-hidden (outcome.Discarded n) k = tt
+  told-hidden _ k = tt
 
   -- a cluster that agrees with a state of the graph sends nothing else
   sends-hidden : (d : Cluster V A) → AgreesIn P es vs d → Each (λ b. b.epoch ≡ d.coordinator.epoch → Hides b) d.flight

@@ -66,12 +66,9 @@ module _ {V A : Type 0} (P : Program V A) (forgetful : P.forgetful ≡ true) (t 
 
     -- neither does any other body
     body-hides : (b : Body V A) → TrueBody P w want t p q b → HidesUnread (edge_list t) b
-    body-hides (body.Gather xs) is = record { updates = tt; grants = tt }
     body-hides (body.Update xs) is = record { updates = rw is (values-read p q); grants = tt }
-    body-hides (body.Signal xs) is = record { updates = tt; grants = tt }
-    body-hides (body.Call xs) is = record { updates = tt; grants = tt }
-    body-hides (body.Ask xs) is = record { updates = tt; grants = tt }
     body-hides (body.Grant xs) is = record { updates = tt; grants = rw is grants-bare }
+    body-hides _ is = record { updates = tt; grants = tt }
 
 pub present-hides : {V A : Type 0} (P : Program V A) → P.forgetful ≡ true → (t : Truth V) (c : Cluster V A) → Agree P t c
     → Each (λ b. b.epoch ≡ c.coordinator.epoch → HidesUnread (edge_list t) b.body) c.flight

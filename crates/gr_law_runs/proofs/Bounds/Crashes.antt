@@ -25,9 +25,9 @@ use Rattle.gr_cluster.specs.Canonical.{next_canonical}
 use Rattle.gr_cluster.specs.Runs.{Position, is_commit, event_of, lines_after, next_event, next_position, position_by}
 use Rattle.gr_cluster.specs.Budget.{Losses, is_restored, no_losses, losses_after_step, are_borne, losses_by, losses_after, IsWithinBudget}
 use Rattle.gr_agree.specs.Truth.{Truth}
-use Rattle.gr_agree.specs.FirstTruth.{IsGraph, IsSetting}
+use Rattle.gr_agree.specs.Accepted.{IsGraph, IsSetting, NamesPlaces}
 use Rattle.gr_agree.specs.Agree.{Agree}
-use Rattle.gr_agree.specs.Laws.{NamesPlaces, is_crash}
+use Rattle.gr_agree.specs.Laws.{is_crash}
 use Rattle.gr_lists.proofs.Counts.{count_by-cons}
 use Rattle.gr_lists.proofs.Tests.{by_test}
 use Rattle.gr_copies.proofs.Selecting.{members-below}

@@ -14,28 +14,19 @@ use Rattle.gr_agree.specs.Truth.{Truth}
 use Rattle.gr_lists.proofs.Any.{list_any-none}
 use Rattle.gr_lists.proofs.Each.{Each-has}
 use Rattle.gr_law_rounds.specs.Network.{IsKept}
-use Rattle.gr_law_runs.proofs.Left.Unruled.{IsUnruled}
+use Rattle.gr_law_rounds.proofs.Network.Unruled.{IsUnruled}
 
 few-of : (m : Mode) (b : Bool) → epochs_of m b ≤ 3
 few-of mode.Running true = omega arith
 few-of mode.Running false = omega arith
-few-of mode.Repairing true = omega arith
-few-of mode.Repairing false = omega arith
-few-of mode.Recovering true = omega arith
-few-of mode.Recovering false = omega arith
-few-of mode.Failed true = omega arith
-few-of mode.Failed false = omega arith
-few-of mode.Done b = omega arith
-few-of mode.Lost b = omega arith
+few-of _ true = omega arith
+few-of _ false = omega arith
 
 -- three where somebody is down, until the run is over
 pub epochs-down : (m : Mode) → is_over m ≡ false → epochs_of m true ≡ 3
-epochs-down mode.Running o = refl
-epochs-down mode.Repairing o = refl
-epochs-down mode.Recovering o = refl
-epochs-down mode.Failed o = refl
 epochs-down mode.Done o = absurd (let bad : true ≡ false = o in cc)
 epochs-down mode.Lost o = absurd (let bad : true ≡ false = o in cc)
+epochs-down _ o = refl
 
 -- at least the commit of a rebuild
 pub epochs-rebuild : (m : Mode) (b : Bool) → is_rebuild m ≡ true → 1 ≤ epochs_of m b
@@ -43,10 +34,7 @@ epochs-rebuild mode.Repairing true r = omega arith
 epochs-rebuild mode.Repairing false r = omega arith
 epochs-rebuild mode.Recovering true r = omega arith
 epochs-rebuild mode.Recovering false r = omega arith
-epochs-rebuild mode.Running b r = absurd (let bad : false ≡ true = r in cc)
-epochs-rebuild mode.Failed b r = absurd (let bad : false ≡ true = r in cc)
-epochs-rebuild mode.Done b r = absurd (let bad : false ≡ true = r in cc)
-epochs-rebuild mode.Lost b r = absurd (let bad : false ≡ true = r in cc)
+epochs-rebuild _ _ r = absurd (let bad : false ≡ true = r in cc)
 
 some-of : {X Y : Type 0} (f : X → Y) (o : Option X) → is_some (option_map f o) ≡ is_some o
 some-of f None = refl

@@ -26,13 +26,7 @@ module _ {V A : Type 0} (P : Program V A) (c : Cluster V A) where
   worked-goes : (p : ℕ) (h : Host V A) (x : Todo) → goes_with (event.Work p) (worked P c p h x).1 ≡ true
   unfolding worked
   worked-goes p h Todo.Install = refl
-  worked-goes p h Todo.Adopt = refl
-  worked-goes p h Todo.Compute = refl
-  worked-goes p h Todo.Append = refl
-  worked-goes p h Todo.Report = refl
-  worked-goes p h Todo.Rest = refl
-  worked-goes p h (Todo.Send q) = refl
-  worked-goes p h (Todo.Wait s q) = refl
+  worked-goes p h _ = refl
 
   worked_at-goes : (p : ℕ) (o : Option (Host V A)) → goes_with (event.Work p) (worked_at P c p o).1 ≡ true
   worked_at-goes p None = refl
@@ -52,9 +46,7 @@ module _ {V A : Type 0} (P : Program V A) (c : Cluster V A) where
 
   verdict-goes : (ps : List ℕ) (co : Coordinator) (v : Verdict) → goes_with event.Barrier (after_verdict c ps co v).1 ≡ true
   verdict-goes ps co (verdict.Failed qs) = refl
-  verdict-goes ps co (verdict.Committed n r d) = refl
-  verdict-goes ps co (verdict.NotReady p) = refl
-  verdict-goes ps co verdict.Idle = refl
+  verdict-goes ps co _ = refl
 
   barred-goes : goes_with event.Barrier (barred c).1 ≡ true
   unfolding barred
@@ -67,8 +59,7 @@ module _ {V A : Type 0} (P : Program V A) (c : Cluster V A) where
 
   opening-goes : (qs ps : List ℕ) (co : Coordinator) (o : Opening) → goes_with (event.Recover qs) (after_opening c ps co o).1 ≡ true
   opening-goes qs ps co (opening.Opened e) = refl
-  opening-goes qs ps co opening.Lost = refl
-  opening-goes qs ps co opening.Idle = refl
+  opening-goes qs ps co _ = refl
 
   repaired-goes : (o : Option ℕ) (d : Cluster V A) → goes_with event.Repair (opened_or_idle c o d).1 ≡ true
   repaired-goes None d = refl

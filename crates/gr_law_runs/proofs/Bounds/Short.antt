@@ -78,10 +78,7 @@ module _ {V A : Type 0} (P : Program V A) where
   none-left : (m : Mode) (b : Bool) → is_over m ≡ true → epochs_of m b ≡ 0
   none-left mode.Done b o = refl
   none-left mode.Lost b o = refl
-  none-left mode.Running b o = absurd (let bad : false ≡ true = o in cc)
-  none-left mode.Failed b o = absurd (let bad : false ≡ true = o in cc)
-  none-left mode.Recovering b o = absurd (let bad : false ≡ true = o in cc)
-  none-left mode.Repairing b o = absurd (let bad : false ≡ true = o in cc)
+  none-left _ b o = absurd (let bad : false ≡ true = o in cc)
 
   module _ (L : ProgramLaws P) where
     pub canonical-agrees : (c : Cluster V A) (e : Event) → Invariant P c → next_canonical c ≡ Some e → Invariant P (step P c e).0

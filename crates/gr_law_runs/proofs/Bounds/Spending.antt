@@ -14,7 +14,7 @@ use Rattle.gr_law_rounds.proofs.Network.Kept.{deliver-kept}
 use Rattle.gr_law_rounds.proofs.Round.Work as round
 use Rattle.gr_law_rebuilds.proofs.Rebuild.Work as rebuild
 use Rattle.gr_law_runs.proofs.Left.Canonical.{by-canonical, canonical-goes_on}
-use Rattle.gr_law_runs.proofs.Left.Unruled.{IsUnruled, worked_at-unruled, delivered-unruled}
+use Rattle.gr_law_rounds.proofs.Network.Unruled.{IsUnruled, worked_at-unruled, delivered-unruled}
 use Rattle.gr_law_runs.proofs.Left.Less.{step-taken}
 use Rattle.gr_law_runs.proofs.Bounds.Epochs.{Spends, kept-spends}
 use Rattle.gr_law_runs.proofs.Bounds.Barriers.{barrier-spends}

@@ -1,8 +1,8 @@
 -- Along a run the holders of a vertex that are live and up, with the crashes since the last restored state, are as many as the copies are to be.
-use Rattle.std.proofs.Common.{◌≡◌, ◌≤◌, ℕ, ◌+◌, List, [], ◌∷◌, Bool, true, false, not, ◌==◌, ◌&&◌, map, filter, length, min, refl, sym, ap, ◌∙◌, subst, arith, Option, Some, None, if◌then◌else◌}
+use Rattle.std.proofs.Common.{◌≡◌, ◌≤◌, ℕ, ◌+◌, List, [], ◌∷◌, Bool, true, false, not, ◌==◌, ◌&&◌, map, length, min, refl, sym, ap, ◌∙◌, subst, arith, Option, Some, None, if◌then◌else◌}
 use Rattle.std.specs.Prelude.{nat_le}
 use Rattle.std.specs.List.{list_all, AllByRecursion as Each}
-use Rattle.std.proofs.lemmas.Bool.{and_from, and_left, and_parts, leb-true, not-false, or_left}
+use Rattle.std.proofs.lemmas.Bool.{and_from, and_left, and_parts, leb-true, or_left}
 use Rattle.gr_base.specs.Places.{below}
 use Rattle.gr_base.specs.Rising.{has}
 use Rattle.gr_base.proofs.Union.{has-union}
@@ -24,19 +24,19 @@ use Rattle.gr_cluster.specs.Budget.{Losses, is_restored, no_losses, losses_after
 use Rattle.gr_agree.specs.Truth.{Truth, held, true_entry}
 use Rattle.gr_agree.specs.Rebuilt.{rebuilt}
 use Rattle.gr_agree.specs.Agree.{Agree}
-use Rattle.gr_agree.specs.Laws.{NamesPlaces, is_crash}
-use Rattle.gr_lists.proofs.Any.{has-filter}
+use Rattle.gr_agree.specs.Accepted.{NamesPlaces}
+use Rattle.gr_agree.specs.Laws.{is_crash}
 use Rattle.gr_lists.proofs.Each.{Each-both, Each-has, Each-weaker}
 use Rattle.gr_lists.proofs.Maps.{Each-map}
 use Rattle.gr_lists.proofs.Tests.{by_test}
-use Rattle.gr_law_rounds.proofs.Commit.Verdicts.{committing}
+use Rattle.gr_law_rounds.proofs.Commit.Verdicts.{committing, all-up}
 use Rattle.gr_law_rebuilds.proofs.Epoch.Places.{live-not_dead}
 use Rattle.gr_law_rebuilds.proofs.Loss.Loss.{loss-kept}
 use Rattle.gr_law_rebuilds.proofs.Restore.Commit.{rebuild-commits}
 use Rattle.gr_law_rebuilds.proofs.Restore.Holders.{holder-stays}
 use Rattle.gr_law_rebuilds.proofs.Restore.Ready.{fits-here, new-holder_party}
 use Rattle.gr_law_runs.proofs.Ends.Directory.{directory-is}
-use Rattle.gr_law_runs.proofs.Ends.Losses.{losses-step}
+use Rattle.gr_law_runs.proofs.Left.Same.{losses-step}
 use Rattle.gr_law_runs.proofs.Ends.Quiet.{Quiet, quiet}
 use Rattle.gr_law_runs.proofs.Ends.Serving.{count_by-more, most, serves, serving, serving-same, serving-less, serving-all}
 
@@ -50,12 +50,6 @@ Each-of_all : {X : Type 0} (f : X → Bool) (xs : List X) → list_all f xs ≡ 
 Each-of_all f [] h = tt
 Each-of_all f (x ∷ xs) h = let k = and_parts (f x) (list_all f xs) h in (k.0, Each-of_all f xs k.1)
 
--- a filter that keeps nothing refuses each element
-none-passes : (f : ℕ → Bool) (xs : List ℕ) → filter f xs ≡ [] → (v : ℕ) → has xs v ≡ true → f v ≡ false
-none-passes f xs none v m = by_test (f v)
-    (λ e. absurd (let there : has (filter f xs) v ≡ true = has-filter f xs v ∙ (ap (λ b. b && f v) m ∙ e) in let bad : false ≡ true = sym (ap (λ l. has l v) none) ∙ there in cc))
-    (λ e. e)
-
 -- ---- the count of losses by an outcome
 
 abbrev pub one_more : Losses → Losses
@@ -67,22 +61,7 @@ module _ {V A : Type 0} (c d : Cluster V A) (l : Losses) where
 
   pub losses-by : (o : Outcome V A) → losses_after_step c o d l ≡ (if is_commit o then at_commit else (if is_crash o then one_more l else l))
   losses-by outcome.Idle = refl
-  losses-by (outcome.Installed n) = refl
-  losses-by (outcome.Adopted n) = refl
-  losses-by (outcome.Computed s) = refl
-  losses-by (outcome.Sent n s q) = refl
-  losses-by (outcome.Appended n) = refl
-  losses-by (outcome.Ready n) = refl
-  losses-by (outcome.Waiting s q) = refl
-  losses-by (outcome.Delivered b f) = refl
-  losses-by (outcome.Dropped n) = refl
-  losses-by (outcome.Crashed n) = refl
-  losses-by (outcome.Failed ps) = refl
-  losses-by (outcome.Committed n r x) = refl
-  losses-by (outcome.NotReady p) = refl
-  losses-by (outcome.Opened n) = refl
-  losses-by (outcome.LostFound n) = refl
-  losses-by (outcome.Discarded n) = refl
+  losses-by _ = refl
 
 -- a vertex has one holder more than the losses that the job bears, or as many as there were live places, where those count that crashed since
 module _ {V A : Type 0} (bound : ℕ) where
@@ -163,7 +142,7 @@ module _ {V A : Type 0} (bound : ℕ) where
         -- the parties are live, and all are up
         party-serves : (q : ℕ) → has (parties c.coordinator) q ≡ true → serves d q ≡ true
         party-serves q m = ap (λ x. serves x q) became
-            ∙ and_from (has (parties c.coordinator) q) (is_up c q) m (not-false (is_up c q) (none-passes (λ p. not (is_up c p)) (parties c.coordinator) (committing P c e commits).0 q m))
+            ∙ and_from (has (parties c.coordinator) q) (is_up c q) m (all-up P c e commits q m)
 
         -- every new holder is live and up
         holder-serves : (v : ℕ) → has t.vertices v ≡ true → (q : ℕ) → held t' q v ≡ true → serves d q ≡ true

@@ -25,10 +25,7 @@ use Rattle.gr_law_runs.proofs.Ends.Within.{never-lost}
 over-ends : (m : Mode) → is_over m ≡ true → (m ≡ mode.Done) ⊎ (m ≡ mode.Lost)
 over-ends mode.Done o = inl refl
 over-ends mode.Lost o = inr refl
-over-ends mode.Running o = absurd (let bad : false ≡ true = o in cc)
-over-ends mode.Failed o = absurd (let bad : false ≡ true = o in cc)
-over-ends mode.Recovering o = absurd (let bad : false ≡ true = o in cc)
-over-ends mode.Repairing o = absurd (let bad : false ≡ true = o in cc)
+over-ends _ o = absurd (let bad : false ≡ true = o in cc)
 
 module _ {V A : Type 0} (P : Program V A) (text : V → List ℕ) (s : Setting) (es : List Edge) (vs : List ℕ) (ls : List Line) (played : List (Played V A)) (end : Cluster V A) (R : IsRunFromLoad P s es vs ls played end) where
   abbrev start : Position V A
@@ -58,12 +55,9 @@ module _ {V A : Type 0} (P : Program V A) (text : V → List ℕ) (s : Setting) 
   }
 
   early-by : (m : Mode) → m ≢ mode.Done → m ≢ mode.Lost → ending_text text end (ending_by end m) ≡ unfinished_text end.coordinator.round
-  early-by mode.Running d l = refl
-  early-by mode.Failed d l = refl
-  early-by mode.Recovering d l = refl
-  early-by mode.Repairing d l = refl
   early-by mode.Done d l = absurd (d refl)
   early-by mode.Lost d l = absurd (l refl)
+  early-by _ d l = refl
 
   tells-early : TellsAnEarlyEnd P text s es vs ls end
   tells-early = early-by end.coordinator.mode

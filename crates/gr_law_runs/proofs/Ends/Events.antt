@@ -11,7 +11,7 @@ use Rattle.gr_cluster.specs.Runs.{is_commit}
 use Rattle.gr_agree.specs.Truth.{Truth, edge_list}
 use Rattle.gr_agree.specs.Rebuilt.{rebuilt}
 use Rattle.gr_agree.specs.Agree.{Agree, Invariant}
-use Rattle.gr_agree.specs.Laws.{NamesPlaces}
+use Rattle.gr_agree.specs.Accepted.{NamesPlaces}
 use Rattle.gr_lists.proofs.Tests.{by_test}
 use Rattle.gr_law_rounds.proofs.Logs.Logged.{graph-in}
 use Rattle.gr_law_rounds.proofs.Commit.Barrier.{barrier-kept}
@@ -41,12 +41,7 @@ module _ {V A : Type 0} (P : Program V A) (L : ProgramLaws P) (t : Truth V) (c :
   in-rebuild : (e : Event) → NamesPlaces e → is_rebuild c.coordinator.mode ≡ true → drives e ≡ true → AgreesAfter e
   in-rebuild (event.Work p) names r d = record { state = t; agrees = (work-kept P t c AG r p).1; edges = refl; vertices = refl }
   in-rebuild event.Barrier names r d = rebuild-barrier r
-  in-rebuild (event.Deliver i) names r d = absurd (let bad : false ≡ true = d in cc)
-  in-rebuild (event.Discarded i) names r d = absurd (let bad : false ≡ true = d in cc)
-  in-rebuild (event.Crash p n) names r d = absurd (let bad : false ≡ true = d in cc)
-  in-rebuild (event.Recover ps) names r d = absurd (let bad : false ≡ true = d in cc)
-  in-rebuild event.Repair names r d = absurd (let bad : false ≡ true = d in cc)
-  in-rebuild event.Discard names r d = absurd (let bad : false ≡ true = d in cc)
+  in-rebuild _ names r d = absurd (let bad : false ≡ true = d in cc)
 
   pub agrees-after : (e : Event) → NamesPlaces e → AgreesAfter e
   agrees-after e names = by_test (drives e)

@@ -13,7 +13,7 @@ use Rattle.gr_cluster.specs.Load.{Setting, load}
 use Rattle.gr_cluster.specs.Step.{down_among, without_hosts, with_coordinator, after_verdict, barred, lost_list, recovered, opened_or_idle, repaired, discarded_or_idle, discarded, taken_step, step}
 use Rattle.gr_cluster.specs.Runs.{Position, next_event, next_position, position_by, position_after}
 use Rattle.gr_lists.proofs.Tests.{by_test, by_option}
-use Rattle.gr_law_runs.proofs.Left.Unruled.{IsUnruled, worked_at-unruled, delivered-unruled, dropped-unruled, crashed-unruled}
+use Rattle.gr_law_rounds.proofs.Network.Unruled.{IsUnruled, worked_at-unruled, delivered-unruled, dropped-unruled, crashed-unruled}
 
 -- where it has lost some, it names one
 abbrev pub SomeLost : {V A : Type 0} → Cluster V A → Type 0
@@ -53,20 +53,14 @@ module _ {V A : Type 0} (P : Program V A) (c : Cluster V A) (o : is_over c.coord
   repaired-found : (m : Mode) → SomeLost (opened_or_idle c (at_repair c.coordinator m).1 (with_coordinator (at_repair c.coordinator m).0 c)).0
   unfolding at_repair
   repaired-found mode.Running = λ y. absurd (let bad : mode.Repairing ≡ mode.Lost = y in cc)
-  repaired-found mode.Failed = here
-  repaired-found mode.Recovering = here
-  repaired-found mode.Repairing = here
-  repaired-found mode.Done = here
-  repaired-found mode.Lost = here
+  repaired-found _ = here
 
   discarded-found : (ps : List ℕ) (m : Mode) (d : Cluster V A) → SomeLost (discarded_or_idle c (at_discard c.coordinator ps m).1 (with_coordinator (at_discard c.coordinator ps m).0 d)).0
   unfolding at_discard
   discarded-found ps mode.Running d = λ y. absurd (let bad : mode.Running ≡ mode.Lost = y in cc)
   discarded-found ps mode.Repairing d = λ y. absurd (let bad : mode.Running ≡ mode.Lost = y in cc)
   discarded-found ps mode.Recovering d = λ y. absurd (let bad : mode.Failed ≡ mode.Lost = y in cc)
-  discarded-found ps mode.Failed d = here
-  discarded-found ps mode.Done d = here
-  discarded-found ps mode.Lost d = here
+  discarded-found ps _ d = here
 
   taken-found : (e : Event) → SomeLost (taken_step P c e).0
   unfolding barred at_barrier repaired discarded

@@ -14,7 +14,8 @@ use Rattle.gr_cluster.specs.Step.{step}
 use Rattle.gr_cluster.specs.Runs.{is_commit}
 use Rattle.gr_agree.specs.Truth.{Truth}
 use Rattle.gr_agree.specs.Agree.{Agree}
-use Rattle.gr_agree.specs.Laws.{NamesPlaces, is_crash}
+use Rattle.gr_agree.specs.Accepted.{NamesPlaces}
+use Rattle.gr_agree.specs.Laws.{is_crash}
 use Rattle.gr_lists.proofs.Tests.{by_test}
 use Rattle.gr_law_rounds.specs.Network.{IsKept}
 use Rattle.gr_law_rounds.proofs.Network.Kept.{deliver-kept, drop-kept}

@@ -1,5 +1,5 @@
 -- Along every run from load a cluster stays in its graph.
-use Rattle.std.proofs.Common.{◌≡◌, ◌<◌, ℕ, zero, suc, List, [], ◌∷◌, Bool, true, false, not, ◌&&◌, refl, ◌∙◌, subst, arith, Option, Some, None, take}
+use Rattle.std.proofs.Common.{◌≡◌, ◌<◌, ℕ, zero, suc, List, [], ◌∷◌, not, ◌&&◌, refl, ◌∙◌, subst, arith, Option, Some, None, take}
 use Rattle.std.specs.List.{find, AllByRecursion as Each}
 use Rattle.std.proofs.lemmas.List.{length-take, get_or-take}
 use Rattle.std.proofs.lemmas.List.Elements.{All-take}
@@ -9,7 +9,6 @@ use Rattle.gr_program.specs.Program.{Program, ProgramLaws}
 use Rattle.gr_batch.specs.declared.batch.Batch.{Batch}
 use Rattle.gr_sched.specs.declared.event.Event.{Event}
 use Rattle.gr_sched.specs.declared.event.Line.{Line}
-use Rattle.gr_sched.specs.declared.event.Line.TheVariants as line
 use Rattle.gr_view.specs.Modes.{is_over, is_failed}
 use Rattle.gr_cluster.specs.Tables.{Cluster, host}
 use Rattle.gr_cluster.specs.Todo.{can_work}
@@ -17,14 +16,14 @@ use Rattle.gr_cluster.specs.Load.{Setting, load}
 use Rattle.gr_cluster.specs.GraphIn.{graph_of}
 use Rattle.gr_cluster.specs.Step.{step}
 use Rattle.gr_cluster.specs.Canonical.{is_crash_unseen, canonical_decision, canonical_work, canonical_among, next_canonical}
-use Rattle.gr_cluster.specs.Runs.{Position, is_commit, event_of, lines_after, next_event, next_position, position_by, position_after}
-use Rattle.gr_agree.specs.FirstTruth.{IsGraph, IsSetting, first_truth}
-use Rattle.gr_agree.specs.Laws.{NamesPlaces}
-use Rattle.gr_agree.specs.Headline.{NamesPlacesAt}
+use Rattle.gr_cluster.specs.Runs.{Position, is_commit, next_event, next_position, position_by, position_after}
+use Rattle.gr_agree.specs.Accepted.{IsGraph, IsSetting, NamesPlaces, NamesPlacesAt}
+use Rattle.gr_agree.specs.FirstTruth.{first_truth}
 use Rattle.gr_lists.proofs.Tests.{by_test}
 use Rattle.gr_law_rounds.proofs.Load.Load.{load-agrees, same-edges}
 use Rattle.gr_law_rounds.proofs.Logs.Logged.{graph-in}
 use Rattle.gr_law_runs.specs.Events.{AgreesIn}
+use Rattle.gr_law_runs.proofs.Runs.Lines.{event-meets, lines-meet}
 use Rattle.gr_law_runs.proofs.Events.Limit.{limit-step}
 use Rattle.gr_law_runs.specs.Ends.{StaysInItsGraph}
 use Rattle.gr_law_runs.proofs.Ends.Events.{agrees-after}
@@ -65,23 +64,6 @@ AllName ls = Each NamesPlacesAt ls
 abbrev pub NamesIfSome : Option Event → Type 0
 NamesIfSome o = (e : Event) → o ≡ Some e → NamesPlaces e
 
-event-names : (o : Option Event) → NamesIfSome o → (ls : List Line) → AllName ls → NamesIfSome (event_of o ls)
-event-names o h [] a e is = absurd (cc)
-event-names o h (line.Step d ∷ ls) a e is = let same : d ≡ e = cc in subst NamesPlaces same a.0
-event-names None h (line.Settle ∷ ls) a e is = event-names None h ls a.1 e is
-event-names (Some d) h (line.Settle ∷ ls) a e is = h e is
-event-names None h (line.Finish ∷ ls) a e is = event-names None h ls a.1 e is
-event-names (Some d) h (line.Finish ∷ ls) a e is = h e is
-
-lines-name : (o : Option Event) (b : Bool) (ls : List Line) → AllName ls → AllName (lines_after o b ls)
-lines-name o b [] a = a
-lines-name o b (line.Step d ∷ ls) a = a.1
-lines-name None b (line.Settle ∷ ls) a = lines-name None b ls a.1
-lines-name (Some d) true (line.Settle ∷ ls) a = a.1
-lines-name (Some d) false (line.Settle ∷ ls) a = a
-lines-name None b (line.Finish ∷ ls) a = lines-name None b ls a.1
-lines-name (Some d) b (line.Finish ∷ ls) a = a
-
 module _ {V A : Type 0} (P : Program V A) (L : ProgramLaws P) (es : List Edge) (vs : List ℕ) where
   -- where a run stands: its cluster agrees with a committed state of the graph, and the lines that are left name sets of places
   pub record StandsIn (s : Position V A) : Type 0 where
@@ -97,13 +79,13 @@ module _ {V A : Type 0} (P : Program V A) (L : ProgramLaws P) (es : List Edge) (
   by-stands s S None h = S
   by-stands s S (Some e) h = record {
     cluster = event-stands s.cluster e (h e refl) S.cluster;
-    lines = lines-name (next_canonical s.cluster) (is_commit (step P s.cluster e).1) s.lines S.lines;
+    lines = lines-meet NamesPlacesAt (next_canonical s.cluster) (is_commit (step P s.cluster e).1) s.lines S.lines;
   }
 
   -- the event that comes next names a set of places
   pub next-names : (s : Position V A) → StandsIn s → NamesIfSome (next_event s)
   unfolding next_event
-  next-names s S = event-names (next_canonical s.cluster) (canonical-names s.cluster S.cluster.agrees.committed.shaped.dead) s.lines S.lines
+  next-names s S = event-meets NamesPlaces NamesPlacesAt (λ e names. names) (next_canonical s.cluster) (canonical-names s.cluster S.cluster.agrees.committed.shaped.dead) s.lines S.lines
 
   pub next-stands : (s : Position V A) → StandsIn s → StandsIn (next_position P s)
   unfolding next_position

@@ -20,7 +20,8 @@ use Rattle.gr_cluster.specs.Step.{lost_list}
 use Rattle.gr_cluster.specs.Runs.{Position, next_event, next_position, position_by, position_after}
 use Rattle.gr_cluster.specs.Budget.{Losses, no_losses, are_borne, losses_by, losses_after, IsWithinBudget}
 use Rattle.gr_agree.specs.Truth.{Truth, true_entry}
-use Rattle.gr_agree.specs.FirstTruth.{IsGraph, IsSetting, first_truth}
+use Rattle.gr_agree.specs.Accepted.{IsGraph, IsSetting}
+use Rattle.gr_agree.specs.FirstTruth.{first_truth}
 use Rattle.gr_agree.specs.Agree.{Agree}
 use Rattle.gr_lists.proofs.Any.{filter-none, find-any}
 use Rattle.gr_lists.proofs.Each.{Each-has}
@@ -33,7 +34,7 @@ use Rattle.gr_law_runs.proofs.Ends.Budget.{IsBorne, Bears, step-bears}
 use Rattle.gr_law_runs.proofs.Ends.Directory.{directory-is, lost-exact}
 use Rattle.gr_law_runs.proofs.Ends.FirstHolders.{holders-enough}
 use Rattle.gr_law_runs.proofs.Ends.Found.{after-found, load-found}
-use Rattle.gr_law_runs.proofs.Ends.Losses.{losses-step}
+use Rattle.gr_law_runs.proofs.Left.Same.{losses-step}
 use Rattle.gr_law_runs.proofs.Ends.Runs.{AllName, NamesIfSome, StandsIn, next-names, next-stands, after-stands, load-stands}
 use Rattle.gr_law_runs.proofs.Ends.Serving.{serves, serving-all, serving-none}
 

@@ -16,7 +16,8 @@ use Rattle.gr_cluster.specs.Runs.{is_commit}
 use Rattle.gr_agree.specs.Truth.{Truth, edge_list}
 use Rattle.gr_agree.specs.TrueRound.{next}
 use Rattle.gr_agree.specs.Agree.{Agree}
-use Rattle.gr_agree.specs.Laws.{NamesPlaces, is_crash}
+use Rattle.gr_agree.specs.Accepted.{NamesPlaces}
+use Rattle.gr_agree.specs.Laws.{is_crash}
 use Rattle.gr_lists.proofs.Tests.{by_test}
 use Rattle.gr_law_rounds.proofs.Network.Kept.{deliver-kept, drop-kept}
 use Rattle.gr_law_rounds.proofs.Round.Work.{work-kept}

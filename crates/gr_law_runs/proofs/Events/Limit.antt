@@ -10,7 +10,7 @@ use Rattle.gr_view.specs.Decisions.{parties, looked_at, going_back, unready, may
 use Rattle.gr_cluster.specs.Tables.{Cluster, host}
 use Rattle.gr_cluster.specs.Step.{down_among, without_hosts, with_coordinator, after_verdict, barred, lost_list, recovered, opened_or_idle, repaired, discarded_or_idle, discarded, taken_step, step}
 use Rattle.gr_lists.proofs.Tests.{by_test, by_option}
-use Rattle.gr_law_runs.proofs.Left.Unruled.{worked_at-unruled, delivered-unruled, dropped-unruled, crashed-unruled}
+use Rattle.gr_law_rounds.proofs.Network.Unruled.{worked_at-unruled, delivered-unruled, dropped-unruled, crashed-unruled}
 
 module _ {V A : Type 0} (P : Program V A) (c : Cluster V A) where
   abbrev IsSame : Cluster V A → Type 0
@@ -33,20 +33,12 @@ module _ {V A : Type 0} (P : Program V A) (c : Cluster V A) where
   repaired-same : (m : Mode) → IsSame (opened_or_idle c (at_repair c.coordinator m).1 (with_coordinator (at_repair c.coordinator m).0 c)).0
   unfolding at_repair
   repaired-same mode.Running = refl
-  repaired-same mode.Failed = refl
-  repaired-same mode.Recovering = refl
-  repaired-same mode.Repairing = refl
-  repaired-same mode.Done = refl
-  repaired-same mode.Lost = refl
+  repaired-same _ = refl
 
   discarded-same : (ps : List ℕ) (m : Mode) (d : Cluster V A) → IsSame (discarded_or_idle c (at_discard c.coordinator ps m).1 (with_coordinator (at_discard c.coordinator ps m).0 d)).0
   unfolding at_discard
   discarded-same ps mode.Running d = refl
-  discarded-same ps mode.Failed d = refl
-  discarded-same ps mode.Recovering d = refl
-  discarded-same ps mode.Repairing d = refl
-  discarded-same ps mode.Done d = refl
-  discarded-same ps mode.Lost d = refl
+  discarded-same ps _ d = refl
 
   taken-same : (e : Event) → is_over c.coordinator.mode ≡ false → IsSame (taken_step P c e).0
   unfolding barred at_barrier repaired discarded

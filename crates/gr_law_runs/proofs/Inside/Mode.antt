@@ -12,7 +12,7 @@ use Rattle.gr_cluster.specs.Step.{lost_list, recovered, taken_step, step}
 use Rattle.gr_agree.specs.Laws.{IsModeSame}
 use Rattle.gr_lists.proofs.Tests.{by_test}
 use Rattle.gr_law_rebuilds.proofs.Epoch.Unopened.{failed-mode}
-use Rattle.gr_law_runs.proofs.Left.Unruled.{worked_at-unruled, delivered-unruled, dropped-unruled, crashed-unruled}
+use Rattle.gr_law_rounds.proofs.Network.Unruled.{worked_at-unruled, delivered-unruled, dropped-unruled, crashed-unruled}
 use Rattle.gr_law_runs.proofs.Left.Decided.{IsDecided, barred-decided, repaired-decided, discarded-decided}
 
 module _ {V A : Type 0} (P : Program V A) (c : Cluster V A) where
@@ -25,13 +25,7 @@ module _ {V A : Type 0} (P : Program V A) (c : Cluster V A) where
 
   same-mode : (e : Event) → IsModeSame e c c
   same-mode (event.Recover ps) = inl refl
-  same-mode (event.Work p) = refl
-  same-mode (event.Deliver i) = refl
-  same-mode (event.Discarded i) = refl
-  same-mode (event.Crash p n) = refl
-  same-mode event.Barrier = refl
-  same-mode event.Repair = refl
-  same-mode event.Discard = refl
+  same-mode _ = refl
 
   -- a recovery that opens nothing finds a lost vertex, or is refused
   recovered-same : (ps : List ℕ) → (recovered c ps).0.coordinator.epoch ≡ c.coordinator.epoch → IsModeSame (event.Recover ps) c (recovered c ps).0

@@ -25,11 +25,7 @@ use Rattle.gr_law_runs.proofs.Left.Places.{left_of_parties, left-over, left-goes
 -- an install, an adoption, the stages of a mode with n others, an append and a report
 most-of-mode : (m : Mode) (n : ℕ) → 2 + sum_by (most_of n) (stages_of m) + cond (is_rebuild m) 1 0 + cond (is_open m) 1 0 ≤ 8 * (n + 1)
 most-of-mode mode.Running n = omega arith
-most-of-mode mode.Failed n = omega arith
-most-of-mode mode.Recovering n = omega arith
-most-of-mode mode.Repairing n = omega arith
-most-of-mode mode.Done n = omega arith
-most-of-mode mode.Lost n = omega arith
+most-of-mode _ n = omega arith
 
 one-at-most : (b : Bool) → cond {A = ℕ} b 1 0 ≤ 1
 one-at-most true = omega arith

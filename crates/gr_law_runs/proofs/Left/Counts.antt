@@ -20,7 +20,7 @@ use Rattle.gr_cluster.specs.Step.{down_among, without_hosts, with_coordinator, a
 use Rattle.gr_agree.specs.Bounds.{IsRaisedByOne}
 use Rattle.gr_lists.proofs.Tests.{by_test, by_option}
 use Rattle.gr_law_runs.proofs.Left.Losing.{removed-shorter}
-use Rattle.gr_law_runs.proofs.Left.Unruled.{IsUnruled, unruled, worked-unruled, delivered-unruled, crashed-unruled}
+use Rattle.gr_law_rounds.proofs.Network.Unruled.{IsUnruled, unruled, worked-unruled, delivered-unruled, crashed-unruled}
 use Rattle.gr_law_runs.proofs.Left.Less.{step-over, step-taken}
 
 module _ {V A : Type 0} (c : Cluster V A) where
@@ -117,11 +117,7 @@ module _ {V A : Type 0} (c : Cluster V A) where
     where
       of : (m : Mode) → IsRaisedByOne c (opened_or_idle c (at_repair c.coordinator m).1 (with_coordinator (at_repair c.coordinator m).0 c)).0
       of mode.Running = anew-counts _ refl refl refl refl refl
-      of mode.Failed = same-counts
-      of mode.Recovering = same-counts
-      of mode.Repairing = same-counts
-      of mode.Done = same-counts
-      of mode.Lost = same-counts
+      of _ = same-counts
 
   discarded-counts : IsRaisedByOne c (discarded c).0
   unfolding discarded at_discard
@@ -130,12 +126,10 @@ module _ {V A : Type 0} (c : Cluster V A) where
       (λ r. rw r (of c.coordinator.mode (down_among c (parties c.coordinator)) c refl refl))
     where
       of : (m : Mode) (ps : List ℕ) (d : Cluster V A) → d.serial ≡ c.serial → d.flight ≡ c.flight → IsRaisedByOne c (discarded_or_idle c (at_discard c.coordinator ps m).1 (with_coordinator (at_discard c.coordinator ps m).0 d)).0
-      of mode.Running ps d s f = anew-counts _ s refl refl refl f
-      of mode.Repairing ps d s f = anew-counts _ s refl refl refl f
-      of mode.Recovering ps d s f = anew-counts _ s refl refl refl f
       of mode.Failed ps d s f = same-counts
       of mode.Done ps d s f = same-counts
       of mode.Lost ps d s f = same-counts
+      of _ ps d s f = anew-counts _ s refl refl refl f
 
   taken-counts : (P : Program V A) → is_over c.coordinator.mode ≡ false → (e : Event) → IsRaisedByOne c (taken_step P c e).0
   taken-counts P o (event.Work p) = worked_at-counts P p (host c p)

@@ -56,25 +56,13 @@ needed-earlier m k y s e = of m k y e
     of mode.Running stage.Signal y e = from_stage mode.Running stage.Signal stage.Update e (record { there = refl; sends = refl; before = omega arith })
     of mode.Running stage.Call y e = from_stage mode.Running stage.Call stage.Signal e (record { there = refl; sends = refl; before = omega arith })
     of mode.Running stage.End y e = from_stage mode.Running stage.End stage.Call e (record { there = refl; sends = refl; before = omega arith })
-    of mode.Running stage.Ask y e = not_there y
-    of mode.Running stage.Grant y e = not_there y
     of mode.Recovering stage.Ask y e = none e
     of mode.Recovering stage.Grant y e = from_stage mode.Recovering stage.Grant stage.Ask e (record { there = refl; sends = refl; before = omega arith })
     of mode.Recovering stage.End y e = from_stage mode.Recovering stage.End stage.Grant e (record { there = refl; sends = refl; before = omega arith })
-    of mode.Recovering stage.Gather y e = not_there y
-    of mode.Recovering stage.Update y e = not_there y
-    of mode.Recovering stage.Signal y e = not_there y
-    of mode.Recovering stage.Call y e = not_there y
     of mode.Repairing stage.Ask y e = none e
     of mode.Repairing stage.Grant y e = from_stage mode.Repairing stage.Grant stage.Ask e (record { there = refl; sends = refl; before = omega arith })
     of mode.Repairing stage.End y e = from_stage mode.Repairing stage.End stage.Grant e (record { there = refl; sends = refl; before = omega arith })
-    of mode.Repairing stage.Gather y e = not_there y
-    of mode.Repairing stage.Update y e = not_there y
-    of mode.Repairing stage.Signal y e = not_there y
-    of mode.Repairing stage.Call y e = not_there y
-    of mode.Failed k y e = not_there y
-    of mode.Done k y e = not_there y
-    of mode.Lost k y e = not_there y
+    of _ _ y e = not_there y
 
 -- a place that waits for the batch of a sender
 pub record Waits {V A : Type 0} (m : Mode) (others : List ℕ) (h : Host V A) : Type 0 where

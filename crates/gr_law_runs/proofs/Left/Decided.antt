@@ -82,20 +82,14 @@ module _ {V A : Type 0} (c : Cluster V A) where
     where
       of : (m : Mode) → IsDecided (opened_or_idle c (at_repair co m).1 (with_coordinator (at_repair co m).0 c)).0
       of mode.Running = inr refl
-      of mode.Failed = inl refl
-      of mode.Recovering = inl refl
-      of mode.Repairing = inl refl
-      of mode.Done = inl refl
-      of mode.Lost = inl refl
+      of _ = inl refl
 
   pub discarded-decided : IsDecided (discarded c).0
   unfolding discarded at_discard
   discarded-decided = of co.mode (down_among c (parties co)) (if is_recovery co.mode then without_hosts (going_back co (down_among c (parties co))) c else c)
     where
       of : (m : Mode) (ps : List ℕ) (d : Cluster V A) → IsDecided (discarded_or_idle c (at_discard co ps m).1 (with_coordinator (at_discard co ps m).0 d)).0
-      of mode.Running ps d = inr refl
-      of mode.Repairing ps d = inr refl
-      of mode.Recovering ps d = inr refl
       of mode.Failed ps d = inl refl
       of mode.Done ps d = inl refl
       of mode.Lost ps d = inl refl
+      of _ ps d = inr refl

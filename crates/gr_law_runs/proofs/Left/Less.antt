@@ -23,7 +23,7 @@ use Rattle.gr_lists.proofs.Any.{has-filter}
 use Rattle.gr_lists.proofs.Counts.{some-counted}
 use Rattle.gr_law_rounds.proofs.Network.Frame.{within}
 use Rattle.gr_law_runs.proofs.Left.Places.{unfinished, left-over, left-goes_on}
-use Rattle.gr_law_runs.proofs.Left.Unruled.{IsUnruled, worked-unruled, delivered-unruled, dropped-unruled, crashed-unruled}
+use Rattle.gr_law_rounds.proofs.Network.Unruled.{IsUnruled, worked-unruled, delivered-unruled, dropped-unruled, crashed-unruled}
 use Rattle.gr_law_runs.proofs.Left.Losing.{delivered-less, delivered-no_more, dropped-no_more, crashed-no_more}
 use Rattle.gr_law_runs.proofs.Left.Work.{goes-on-open, work-lowers}
 use Rattle.gr_law_runs.proofs.Left.Deadlock.{all-ready}

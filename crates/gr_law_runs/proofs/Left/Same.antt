@@ -1,8 +1,7 @@
 -- What no event changes: how many places there are, and, where it begins a new epoch, the batches in flight.
-use Rattle.std.proofs.Common.{◌≡◌, ℕ, List, ◌||◌, refl, sym, subst, ap, Option, Some, None, nat_lt, length, slice_get, ◌⊎◌, inl, inr}
-use Rattle.std.specs.Prelude.{is_none}
+use Rattle.std.proofs.Common.{◌≡◌, ℕ, List, refl, sym, subst, ap, Option, Some, None, nat_lt, length, slice_get, ◌⊎◌, inl, inr}
 use Rattle.gr_program.specs.Program.{Program}
-use Rattle.gr_batch.specs.declared.batch.Batch.{Batch}
+use Rattle.gr_batch.specs.declared.outcome.Outcome.{Outcome}
 use Rattle.gr_sched.specs.declared.event.Event.{Event}
 use Rattle.gr_sched.specs.declared.event.Event.TheVariants as event
 use Rattle.gr_view.specs.declared.coordinator.Coordinator.{Coordinator}
@@ -12,73 +11,37 @@ use Rattle.gr_view.specs.declared.coordinator.Opening.{Opening}
 use Rattle.gr_view.specs.declared.coordinator.Opening.TheVariants as opening
 use Rattle.gr_view.specs.Modes.{is_over, is_rebuild, is_recovery}
 use Rattle.gr_view.specs.Decisions.{parties, looked_at, going_back, at_barrier, at_recovery, at_repair, at_discard}
-use Rattle.gr_rules.specs.Todo.{Todo}
-use Rattle.gr_cluster.specs.Tables.{Host, Cluster, host}
-use Rattle.gr_cluster.specs.Todo.{todo}
-use Rattle.gr_cluster.specs.Work.{worked, worked_at}
-use Rattle.gr_cluster.specs.Network.{delivered, dropped, crashed}
+use Rattle.gr_cluster.specs.Tables.{Cluster, host}
 use Rattle.gr_cluster.specs.Step.{down_among, without_hosts, with_coordinator, after_verdict, barred, lost_list, after_opening, recovered, opened_or_idle, repaired, discarded_or_idle, discarded, taken_step, step}
 use Rattle.gr_lists.proofs.Tests.{by_test}
-use Rattle.gr_law_runs.proofs.Left.Unruled.{worked_at-unruled, delivered-unruled, dropped-unruled, crashed-unruled}
+use Rattle.gr_law_rounds.proofs.Network.Unruled.{IsAside, worked_at-aside, delivered-aside, dropped-aside, crashed-aside, worked_at-unruled, delivered-unruled, dropped-unruled, crashed-unruled}
 use Rattle.gr_law_runs.proofs.Left.Less.{step-over, step-taken}
 
 module _ {V A : Type 0} (P : Program V A) (c : Cluster V A) where
-  worked-places : (p : ℕ) (h : Host V A) (x : Todo) → (worked P c p h x).0.places ≡ c.places
-  unfolding worked
-  worked-places p h Todo.Install = refl
-  worked-places p h Todo.Adopt = refl
-  worked-places p h Todo.Compute = refl
-  worked-places p h Todo.Append = refl
-  worked-places p h Todo.Report = refl
-  worked-places p h Todo.Rest = refl
-  worked-places p h (Todo.Send q) = refl
-  worked-places p h (Todo.Wait s q) = refl
-
-  worked_at-places : (p : ℕ) (o : Option (Host V A)) → (worked_at P c p o).0.places ≡ c.places
-  worked_at-places p None = refl
-  worked_at-places p (Some h) = worked-places p h (todo c.coordinator p h)
-
-  delivered-places : (i : ℕ) (o : Option (Batch V A)) → (delivered c i o).0.places ≡ c.places
-  unfolding delivered
-  delivered-places i None = refl
-  delivered-places i (Some b) = refl
-
-  dropped-places : (i : ℕ) (o : Option (Batch V A)) → (dropped c i o).0.places ≡ c.places
-  unfolding dropped
-  dropped-places i None = refl
-  dropped-places i (Some b) = by_test (nat_lt b.epoch c.coordinator.epoch || is_none (host c b.sender))
-      (λ e. rw e refl)
-      (λ e. rw e refl)
-
-  crashed-places : (p n : ℕ) (o : Option (Host V A)) → (crashed c p n o).0.places ≡ c.places
-  unfolding crashed
-  crashed-places p n None = refl
-  crashed-places p n (Some h) = refl
-
-  -- a decision of the coordinator leaves the places and the batches in flight
+  -- a decision of the coordinator leaves the places, the losses that are borne and the batches in flight
   record IsDecision (d : Cluster V A) : Type 0 where
     places : d.places ≡ c.places
+    losses : d.losses ≡ c.losses
     flight : d.flight ≡ c.flight
 
   verdict-leaves : (ps : List ℕ) (co : Coordinator) (v : Verdict) → IsDecision (after_verdict c ps co v).0
-  verdict-leaves ps co (verdict.Failed qs) = record { places = refl; flight = refl }
+  verdict-leaves ps co (verdict.Failed qs) = record { places = refl; losses = refl; flight = refl }
   verdict-leaves ps co (verdict.Committed n r d) = by_test (is_rebuild c.coordinator.mode)
-      (λ y. rw y (record { places = refl; flight = refl }))
-      (λ y. rw y (record { places = refl; flight = refl }))
-  verdict-leaves ps co (verdict.NotReady p) = record { places = refl; flight = refl }
-  verdict-leaves ps co verdict.Idle = record { places = refl; flight = refl }
+      (λ y. rw y (record { places = refl; losses = refl; flight = refl }))
+      (λ y. rw y (record { places = refl; losses = refl; flight = refl }))
+  verdict-leaves ps co (verdict.NotReady p) = record { places = refl; losses = refl; flight = refl }
+  verdict-leaves ps co verdict.Idle = record { places = refl; losses = refl; flight = refl }
 
   opening-leaves : (ps : List ℕ) (co : Coordinator) (o : Opening) → IsDecision (after_opening c ps co o).0
-  opening-leaves ps co (opening.Opened e) = record { places = refl; flight = refl }
-  opening-leaves ps co opening.Lost = record { places = refl; flight = refl }
-  opening-leaves ps co opening.Idle = record { places = refl; flight = refl }
+  opening-leaves ps co (opening.Opened e) = record { places = refl; losses = refl; flight = refl }
+  opening-leaves ps co _ = record { places = refl; losses = refl; flight = refl }
 
   opened-leaves : (o : Option ℕ) (d : Cluster V A) → IsDecision d → IsDecision (opened_or_idle c o d).0
-  opened-leaves None d D = record { places = refl; flight = refl }
+  opened-leaves None d D = record { places = refl; losses = refl; flight = refl }
   opened-leaves (Some e) d D = D
 
   discarded-leaves : (o : Option ℕ) (d : Cluster V A) → IsDecision d → IsDecision (discarded_or_idle c o d).0
-  discarded-leaves None d D = record { places = refl; flight = refl }
+  discarded-leaves None d D = record { places = refl; losses = refl; flight = refl }
   discarded-leaves (Some e) d D = D
 
   barrier-leaves : IsDecision (barred c).0
@@ -91,31 +54,46 @@ module _ {V A : Type 0} (P : Program V A) (c : Cluster V A) where
 
   repair-leaves : IsDecision (repaired c).0
   unfolding repaired
-  repair-leaves = let x = at_repair c.coordinator c.coordinator.mode in opened-leaves x.1 (with_coordinator x.0 c) (record { places = refl; flight = refl })
+  repair-leaves = let x = at_repair c.coordinator c.coordinator.mode in opened-leaves x.1 (with_coordinator x.0 c) (record { places = refl; losses = refl; flight = refl })
 
   discard-leaves : IsDecision (discarded c).0
   unfolding discarded
   discard-leaves =
       let ps = down_among c (parties c.coordinator) in
       let x = at_discard c.coordinator ps c.coordinator.mode in by_test (is_recovery c.coordinator.mode)
-      (λ r. rw r (discarded-leaves x.1 (with_coordinator x.0 (without_hosts (going_back c.coordinator ps) c)) (record { places = refl; flight = refl })))
-      (λ r. rw r (discarded-leaves x.1 (with_coordinator x.0 c) (record { places = refl; flight = refl })))
+      (λ r. rw r (discarded-leaves x.1 (with_coordinator x.0 (without_hosts (going_back c.coordinator ps) c)) (record { places = refl; losses = refl; flight = refl })))
+      (λ r. rw r (discarded-leaves x.1 (with_coordinator x.0 c) (record { places = refl; losses = refl; flight = refl })))
 
-  taken-places : (e : Event) → (taken_step P c e).0.places ≡ c.places
-  taken-places (event.Work p) = worked_at-places p (host c p)
-  taken-places (event.Deliver i) = delivered-places i (slice_get c.flight i)
-  taken-places (event.Discarded i) = dropped-places i (slice_get c.flight i)
-  taken-places (event.Crash p n) = crashed-places p n (host c p)
-  taken-places event.Barrier = barrier-leaves.places
-  taken-places (event.Recover ps) = (recovery-leaves ps).places
-  taken-places event.Repair = repair-leaves.places
-  taken-places event.Discard = discard-leaves.places
+  abbrev IsSame : Cluster V A → Type 0
+  IsSame d = (d.places ≡ c.places) × (d.losses ≡ c.losses)
 
-  -- no event changes how many places there are
+  aside-same : (r : Cluster V A × Outcome V A) → IsAside P c r → IsSame r.0
+  aside-same r A = (A.places, A.losses)
+
+  decision-same : (d : Cluster V A) → IsDecision d → IsSame d
+  decision-same d D = (D.places, D.losses)
+
+  taken-same : (e : Event) → IsSame (taken_step P c e).0
+  taken-same (event.Work p) = aside-same _ (worked_at-aside P c p (host c p))
+  taken-same (event.Deliver i) = aside-same _ (delivered-aside P c i (slice_get c.flight i))
+  taken-same (event.Discarded i) = aside-same _ (dropped-aside P c i (slice_get c.flight i))
+  taken-same (event.Crash p n) = aside-same _ (crashed-aside P c p n (host c p))
+  taken-same event.Barrier = decision-same _ barrier-leaves
+  taken-same (event.Recover ps) = decision-same _ (recovery-leaves ps)
+  taken-same event.Repair = decision-same _ repair-leaves
+  taken-same event.Discard = decision-same _ discard-leaves
+
+  step-same : (e : Event) → IsSame (step P c e).0
+  step-same e = by_test (is_over c.coordinator.mode)
+      (λ o. (ap (λ (d : Cluster V A). d.places) (step-over P c o e), ap (λ (d : Cluster V A). d.losses) (step-over P c o e)))
+      (λ o. subst (λ r. IsSame r.0) (sym (step-taken P c o e)) (taken-same e))
+
+  -- no event changes how many places there are, or how many losses the job is to bear
   pub step-places : (e : Event) → (step P c e).0.places ≡ c.places
-  step-places e = by_test (is_over c.coordinator.mode)
-      (λ o. ap (λ d. d.places) (step-over P c o e))
-      (λ o. subst (λ r. r.0.places ≡ c.places) (sym (step-taken P c o e)) (taken-places e))
+  step-places e = (step-same e).0
+
+  pub losses-step : (e : Event) → (step P c e).0.losses ≡ c.losses
+  losses-step e = (step-same e).1
 
   abbrev StaysOrKeeps : Cluster V A → Type 0
   StaysOrKeeps d = (d.coordinator.epoch ≡ c.coordinator.epoch) ⊎ (d.flight ≡ c.flight)

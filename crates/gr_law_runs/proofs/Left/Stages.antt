@@ -11,7 +11,7 @@ use Rattle.gr_batch.specs.Stages.{place_in, is_stage, is_end, stage_after}
 use Rattle.gr_rules.specs.Exchange.{Exchange, begun}
 use Rattle.gr_lists.proofs.Tests.{by_test}
 use Rattle.gr_base.proofs.WithPlace.{has-with_place}
-use Rattle.gr_law_rounds.proofs.Round.Passing.{same-code}
+use Rattle.gr_law_rounds.proofs.Round.Codes.{same-code}
 use Rattle.gr_law_runs.proofs.Left.Sums.{sum_by-falls, count_by-all}
 
 -- what is left of a stage at most
@@ -20,13 +20,8 @@ most_of n s = 1 + 2 * (if is_end s then 0 else n)
 
 -- a stage that is passed is not the end, and the next one is later
 pub after-later : (s : Stage) → is_end s ≡ false → place_in s < place_in (stage_after s)
-after-later stage.Gather e = omega arith
-after-later stage.Update e = omega arith
-after-later stage.Signal e = omega arith
-after-later stage.Call e = omega arith
-after-later stage.Ask e = omega arith
-after-later stage.Grant e = omega arith
 after-later stage.End e = absurd (let bad : true ≡ false = e in cc)
+after-later _ e = omega arith
 
 module _ (adopted : Bool) (others : List ℕ) where
   abbrev is_here : Exchange → Stage → Bool

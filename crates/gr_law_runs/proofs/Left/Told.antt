@@ -28,13 +28,7 @@ module _ {V A : Type 0} (c : Cluster V A) where
     worked-told : (p : ℕ) (h : Host V A) (x : Todo) → IsTold (worked P c p h x)
     unfolding worked
     worked-told p h Todo.Install = omega arith
-    worked-told p h Todo.Adopt = omega arith
-    worked-told p h Todo.Compute = omega arith
-    worked-told p h Todo.Append = omega arith
-    worked-told p h Todo.Report = omega arith
-    worked-told p h Todo.Rest = omega arith
-    worked-told p h (Todo.Send q) = omega arith
-    worked-told p h (Todo.Wait s q) = omega arith
+    worked-told p h _ = omega arith
 
     worked_at-told : (p : ℕ) (o : Option (Host V A)) → IsTold (worked_at P c p o)
     worked_at-told p None = omega arith
@@ -82,20 +76,14 @@ module _ {V A : Type 0} (c : Cluster V A) where
   repaired-told : (m : Mode) → IsTold (opened_or_idle c (at_repair c.coordinator m).1 (with_coordinator (at_repair c.coordinator m).0 c))
   unfolding at_repair
   repaired-told mode.Running = refl
-  repaired-told mode.Failed = omega arith
-  repaired-told mode.Recovering = omega arith
-  repaired-told mode.Repairing = omega arith
-  repaired-told mode.Done = omega arith
-  repaired-told mode.Lost = omega arith
+  repaired-told _ = omega arith
 
   discarded-told : (m : Mode) (ps : List ℕ) (d : Cluster V A) → IsTold (discarded_or_idle c (at_discard c.coordinator ps m).1 (with_coordinator (at_discard c.coordinator ps m).0 d))
   unfolding at_discard
-  discarded-told mode.Running ps d = refl
-  discarded-told mode.Repairing ps d = refl
-  discarded-told mode.Recovering ps d = refl
   discarded-told mode.Failed ps d = omega arith
   discarded-told mode.Done ps d = omega arith
   discarded-told mode.Lost ps d = omega arith
+  discarded-told _ ps d = refl
 
   taken-told : (P : Program V A) → is_over c.coordinator.mode ≡ false → (e : Event) → IsTold (taken_step P c e)
   unfolding repaired discarded

@@ -27,12 +27,10 @@ use Rattle.gr_law_runs.proofs.Left.Places.{unfinished, parties-lower}
 
 -- a mode that is not over and in which no places failed is open
 pub goes-on-open : (m : Mode) → is_over m ≡ false → is_failed m ≡ false → is_open m ≡ true
-goes-on-open mode.Running o f = refl
 goes-on-open mode.Failed o f = absurd (let bad : true ≡ false = f in cc)
-goes-on-open mode.Recovering o f = refl
-goes-on-open mode.Repairing o f = refl
 goes-on-open mode.Done o f = absurd (let bad : true ≡ false = o in cc)
 goes-on-open mode.Lost o f = absurd (let bad : true ≡ false = o in cc)
+goes-on-open _ o f = refl
 
 module _ {V A : Type 0} (P : Program V A) (t : Truth V) (c : Cluster V A) (AG : Agree P t c) where
   -- the line of a party

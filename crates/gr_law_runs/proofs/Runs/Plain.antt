@@ -77,13 +77,7 @@ module _ {V A : Type 0} (P : Program V A) (c : Cluster V A) where
   worked-same : (p : ℕ) (h : Host V A) (x : Todo) → IsSameCoordinator c.coordinator (worked P c p h x).0.coordinator
   unfolding worked
   worked-same p h Todo.Install = record { mode = refl; limit = refl }
-  worked-same p h Todo.Adopt = record { mode = refl; limit = refl }
-  worked-same p h Todo.Compute = record { mode = refl; limit = refl }
-  worked-same p h Todo.Append = record { mode = refl; limit = refl }
-  worked-same p h Todo.Report = record { mode = refl; limit = refl }
-  worked-same p h Todo.Rest = record { mode = refl; limit = refl }
-  worked-same p h (Todo.Send q) = record { mode = refl; limit = refl }
-  worked-same p h (Todo.Wait s q) = record { mode = refl; limit = refl }
+  worked-same p h _ = record { mode = refl; limit = refl }
 
   worked_at-same : (p : ℕ) (o : Option (Host V A)) → IsSameCoordinator c.coordinator (worked_at P c p o).0.coordinator
   worked_at-same p None = record { mode = refl; limit = refl }
@@ -122,10 +116,7 @@ module _ {V A : Type 0} (P : Program V A) (c : Cluster V A) where
 pub no-rebuild : (m : Mode) → is_undisturbed m ≡ true → (is_rebuild m ≡ false) × (is_failed m ≡ false)
 no-rebuild mode.Running u = (refl, refl)
 no-rebuild mode.Done u = (refl, refl)
-no-rebuild mode.Failed u = absurd (let bad : false ≡ true = u in cc)
-no-rebuild mode.Recovering u = absurd (let bad : false ≡ true = u in cc)
-no-rebuild mode.Repairing u = absurd (let bad : false ≡ true = u in cc)
-no-rebuild mode.Lost u = absurd (let bad : false ≡ true = u in cc)
+no-rebuild _ u = absurd (let bad : false ≡ true = u in cc)
 
 some-of : {X Y : Type 0} (f : X → Y) (o : Option X) → is_some (option_map f o) ≡ is_some o
 some-of f None = refl
@@ -134,10 +125,7 @@ some-of f (Some x) = refl
 pub mode-running : (m : Mode) → is_undisturbed m ≡ true → is_over m ≡ false → m ≡ mode.Running
 mode-running mode.Running u o = refl
 mode-running mode.Done u o = absurd (let bad : true ≡ false = o in cc)
-mode-running mode.Failed u o = absurd (let bad : false ≡ true = u in cc)
-mode-running mode.Recovering u o = absurd (let bad : false ≡ true = u in cc)
-mode-running mode.Repairing u o = absurd (let bad : false ≡ true = u in cc)
-mode-running mode.Lost u o = absurd (let bad : false ≡ true = u in cc)
+mode-running _ u o = absurd (let bad : false ≡ true = u in cc)
 
 -- where all of some places are up, none of them is seen as crashed
 pub none-down : {V A : Type 0} (c : Cluster V A) (ps : List ℕ) → ((p : ℕ) → has ps p ≡ true → is_up c p ≡ true) → down_among c ps ≡ []
@@ -231,10 +219,7 @@ module _ {V A : Type 0} (P : Program V A) (L : ProgramLaws P) (es : List Edge) (
     step-undisturbed (event.Deliver i) y = kept-undisturbed (step P c (event.Deliver i)).0 (deliver-kept P U.state c U.agrees i) (deliver-same P c i)
     step-undisturbed (event.Discarded i) y = kept-undisturbed (step P c (event.Discarded i)).0 (drop-kept P U.state c U.agrees i) (drop-same P c i)
     step-undisturbed event.Barrier y = barrier-undisturbed
-    step-undisturbed (event.Crash p n) y = absurd (let bad : false ≡ true = y in cc)
-    step-undisturbed (event.Recover ps) y = absurd (let bad : false ≡ true = y in cc)
-    step-undisturbed event.Repair y = absurd (let bad : false ≡ true = y in cc)
-    step-undisturbed event.Discard y = absurd (let bad : false ≡ true = y in cc)
+    step-undisturbed _ y = absurd (let bad : false ≡ true = y in cc)
 
   pub run-undisturbed : (events : List Event) → Each (λ e. IsTrue (is_plain e)) events → (c : Cluster V A) → IsUndisturbed P es vs limit c → IsUndisturbed P es vs limit (after_events P events c)
   run-undisturbed [] h c U = U

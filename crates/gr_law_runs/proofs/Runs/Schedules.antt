@@ -1,5 +1,5 @@
 -- What the steps of a schedule keep that disturbs nothing.
-use Rattle.std.proofs.Common.{◌≡◌, ℕ, zero, suc, List, [], ◌∷◌, Bool, true, false, refl, sym, ap, ◌∙◌, Option, Some, None}
+use Rattle.std.proofs.Common.{◌≡◌, ℕ, zero, suc, List, [], ◌∷◌, true, refl, sym, ap, ◌∙◌, Option, Some, None}
 use Rattle.std.specs.Prelude.{IsTrue}
 use Rattle.std.specs.List.{find, AllByRecursion as Each}
 use Rattle.gr_base.specs.declared.records.Edge.{Edge}
@@ -8,7 +8,6 @@ use Rattle.gr_program.specs.Program.{Program, ProgramLaws}
 use Rattle.gr_batch.specs.declared.batch.Batch.{Batch}
 use Rattle.gr_sched.specs.declared.event.Event.{Event}
 use Rattle.gr_sched.specs.declared.event.Line.{Line}
-use Rattle.gr_sched.specs.declared.event.Line.TheVariants as line
 use Rattle.gr_view.specs.declared.coordinator.Mode.TheVariants as mode
 use Rattle.gr_view.specs.Modes.{is_over}
 use Rattle.gr_cluster.specs.Tables.{Cluster, host}
@@ -16,13 +15,14 @@ use Rattle.gr_cluster.specs.Todo.{can_work}
 use Rattle.gr_cluster.specs.Load.{Setting, load}
 use Rattle.gr_cluster.specs.Step.{step}
 use Rattle.gr_cluster.specs.Canonical.{canonical_work, canonical_among, next_canonical}
-use Rattle.gr_cluster.specs.Runs.{Position, is_commit, event_of, lines_after, next_event, next_position, position_by, position_after}
-use Rattle.gr_agree.specs.FirstTruth.{IsGraph, IsSetting}
+use Rattle.gr_cluster.specs.Runs.{Position, is_commit, next_event, next_position, position_by, position_after}
+use Rattle.gr_agree.specs.Accepted.{IsGraph, IsSetting}
 use Rattle.gr_lists.proofs.Tests.{by_test}
 use Rattle.gr_law_runs.specs.Runs.{HasResult, scheduled}
 use Rattle.gr_law_runs.specs.Undisturbed.{is_plain, is_plain_line, is_undisturbed}
 use Rattle.gr_law_runs.proofs.Runs.Plain.{IsUndisturbed, no-rebuild, step-undisturbed}
-use Rattle.gr_law_runs.proofs.Runs.Results.{load-undisturbed, done-result}
+use Rattle.gr_law_runs.proofs.Runs.Lines.{event-meets, lines-meet}
+use Rattle.gr_law_runs.proofs.Runs.Results.{load-undisturbed, undisturbed-result}
 
 module _ {V A : Type 0} (c : Cluster V A) (calm : is_undisturbed c.coordinator.mode ≡ true) where
   work-plain : (o : Option ℕ) → is_plain (canonical_work c o) ≡ true
@@ -48,23 +48,6 @@ AllPlain ls = Each (λ l. IsTrue (is_plain_line l)) ls
 abbrev PlainIfSome : Option Event → Type 0
 PlainIfSome o = (e : Event) → o ≡ Some e → is_plain e ≡ true
 
-event-plain : (o : Option Event) → PlainIfSome o → (ls : List Line) → AllPlain ls → PlainIfSome (event_of o ls)
-event-plain o h [] a e is = absurd (cc)
-event-plain o h (line.Step d ∷ ls) a e is = let same : d ≡ e = cc in sym (ap is_plain same) ∙ a.0
-event-plain None h (line.Settle ∷ ls) a e is = event-plain None h ls a.1 e is
-event-plain (Some d) h (line.Settle ∷ ls) a e is = h e is
-event-plain None h (line.Finish ∷ ls) a e is = event-plain None h ls a.1 e is
-event-plain (Some d) h (line.Finish ∷ ls) a e is = h e is
-
-lines-plain : (o : Option Event) (b : Bool) (ls : List Line) → AllPlain ls → AllPlain (lines_after o b ls)
-lines-plain o b [] a = a
-lines-plain o b (line.Step d ∷ ls) a = a.1
-lines-plain None b (line.Settle ∷ ls) a = lines-plain None b ls a.1
-lines-plain (Some d) true (line.Settle ∷ ls) a = a.1
-lines-plain (Some d) false (line.Settle ∷ ls) a = a
-lines-plain None b (line.Finish ∷ ls) a = lines-plain None b ls a.1
-lines-plain (Some d) b (line.Finish ∷ ls) a = a
-
 module _ {V A : Type 0} (P : Program V A) (L : ProgramLaws P) (es : List Edge) (vs : List ℕ) (limit : ℕ) where
   -- the cluster is undisturbed, and so are the lines that are left
   pub record CalmAt (s : Position V A) : Type 0 where
@@ -75,12 +58,12 @@ module _ {V A : Type 0} (P : Program V A) (L : ProgramLaws P) (es : List Edge) (
   by-calm s C None h = C
   by-calm s C (Some e) h = record {
     cluster = step-undisturbed P L es vs limit s.cluster C.cluster e (h e refl);
-    lines = lines-plain (next_canonical s.cluster) (is_commit (step P s.cluster e).1) s.lines C.lines;
+    lines = lines-meet (λ l. IsTrue (is_plain_line l)) (next_canonical s.cluster) (is_commit (step P s.cluster e).1) s.lines C.lines;
   }
 
   pub next-calm : (s : Position V A) → CalmAt s → CalmAt (next_position P s)
   unfolding next_position next_event
-  next-calm s C = by-calm s C (next_event s) (event-plain (next_canonical s.cluster) (canonical-plain s.cluster (C.cluster).mode) s.lines C.lines)
+  next-calm s C = by-calm s C (next_event s) (event-meets (λ e. is_plain e ≡ true) (λ l. IsTrue (is_plain_line l)) (λ e plain. plain) (next_canonical s.cluster) (canonical-plain s.cluster (C.cluster).mode) s.lines C.lines)
 
   pub after-calm : (n : ℕ) (s : Position V A) → CalmAt s → CalmAt (position_after P n s)
   unfolding position_after
@@ -90,5 +73,5 @@ module _ {V A : Type 0} (P : Program V A) (L : ProgramLaws P) (es : List Edge) (
 module _ {V A : Type 0} (P : Program V A) (L : ProgramLaws P) (s : Setting) (es : List Edge) (vs : List ℕ) (IS : IsSetting s) (IG : IsGraph es vs) where
   pub schedule-result : (ls : List Line) → AllPlain ls → (n : ℕ) → (scheduled P s es vs ls n).coordinator.mode ≡ mode.Done → HasResult P es vs s.limit (scheduled P s es vs ls n)
   schedule-result ls plain n done =
-      done-result P L s es vs IS IG (scheduled P s es vs ls n)
+      undisturbed-result P es vs s.limit (scheduled P s es vs ls n)
       (after-calm P L es vs s.limit n (record { cluster = load P s es vs; lines = ls }) (record { cluster = load-undisturbed P L s es vs IS IG; lines = plain })).cluster done

@@ -28,9 +28,9 @@ use Rattle.gr_lists.proofs.Any.{find-any}
 use Rattle.gr_law_rounds.proofs.Bodies.Fold.{occurs-once}
 use Rattle.gr_law_rounds.proofs.Bodies.Rows.{gathers_of}
 use Rattle.gr_law_rounds.proofs.Round.Running.{parties-rise, shows-stable, mastered, placed, steady-here}
-use Rattle.gr_law_rounds.proofs.Round.Install.{party}
+use Rattle.gr_law_rounds.proofs.Round.InEpoch.{party, at-epoch}
 use Rattle.gr_law_rounds.proofs.Round.AtPlace.{gathers-here}
-use Rattle.gr_law_rounds.proofs.Round.Compute.{at-epoch, inbox-good, pending-here, none-dead, needed-before}
+use Rattle.gr_law_rounds.proofs.Round.Compute.{inbox-good, pending-here, none-dead, needed-before}
 use Rattle.gr_law_work.specs.InRound.{MayAct}
 use Rattle.gr_law_work.proofs.Needs.Rows.{sources-ready, values-fit, vertices-staged}
 use Rattle.gr_law_work.proofs.Needs.NewValues.{new-values-staged}
@@ -71,7 +71,7 @@ module _ {V A : Type 0} (P : Program V A) (L : ProgramLaws P) (t : Truth V) (c :
       let shown = shows-stable P t c AG no-rebuild p h at installed in
       let le : c.coordinator.commits ≤ h.installed = omega (arith, installed) in
       let le' : c.coordinator.epoch ≤ h.epoch = omega (arith, now) in
-      let E : AtEpoch P (view_of P c) (wanted_in P c) t co p h (log c p) = at-epoch P t c L AG no-rebuild running p h at le le' in
+      let E : AtEpoch P (view_of P c) (wanted_in P c) t co p h (log c p) = at-epoch P t c AG p h at le le' in
       let good = inbox-good P t c L AG no-rebuild running p h at le le' in
       let staged_here = pending-here P t c L AG no-rebuild running p h at le le' in
       record {
@@ -85,7 +85,7 @@ module _ {V A : Type 0} (P : Program V A) (L : ProgramLaws P) (t : Truth V) (c :
         staged = λ on.
             let late : 1 < progress h = past-update h.stage h.computed on in
             let ps = parties co in
-            let once = occurs-once ps (parties-rise P t c AG no-rebuild) p (party P t c AG no-rebuild p h at) in
+            let once = occurs-once ps (parties-rise P t c AG no-rebuild) p (party P t c AG p h at) in
             let dead = none-dead P t c L AG no-rebuild running p h at le le' in
             let edges = placed P t c AG no-rebuild dead in
             let brought : bodies h.inbox h.epoch stage.Gather (others co p) ≡ gathers_of P t p (others co p)

@@ -30,7 +30,8 @@ use Rattle.gr_lists.proofs.Each.{Each-append, Each-always, Each-has}
 use Rattle.gr_lists.proofs.Chosen.{if-some, Each-find, Each-filter_map, filter_map-rises}
 use Rattle.gr_law_rounds.proofs.Bodies.Steady.{Steady}
 use Rattle.gr_law_rounds.proofs.Bodies.Rows.{row-rows_at, part-kept}
-use Rattle.gr_law_rounds.proofs.Round.Brought.{gather-true, values-true, signals-true, calls-true, true-there}
+use Rattle.gr_law_rounds.proofs.Round.Codes.{said-of}
+use Rattle.gr_law_rounds.proofs.Round.Brought.{true-there}
 
 -- the true bodies from q to p
 module _ {V A : Type 0} (P : Program V A) (t : Truth V) (S : Sound P t) (q p : ℕ) where
@@ -80,21 +81,21 @@ module _ {V A : Type 0} (P : Program V A) (w : RebuildView) (want : ℕ) (t : Tr
 
   pub gathers-fit : ProgramLaws P → Steady P t → (qs : List ℕ) → GathersFit inbox co.epoch qs P
   gathers-fit L N = All-bodies (PartsFit P) stage.Gather (λ q b k e.
-      subst (PartsFit P) (sym (gather-true P w want t q p b k e)) (record {
+      subst (PartsFit P) (sym (said-of P w want t q p stage.Gather b k e)) (record {
         rise = true-parts-rise P t S q p;
         sums = All-from_recursion _ _ (true-parts-kept P t S q p L N);
       }))
 
   pub updates-fit : (rows : List (VertexCopy V)) → rows ≡ rows_at P t p → (qs : List ℕ) → UpdatesFit inbox co.epoch qs rows
   updates-fit rows er = All-bodies (UpdateFits rows) stage.Update (λ q b k e.
-      let is : values_of b ≡ true_values P t q p = values-true P w want t q p b k e in
+      let is : values_of b ≡ true_values P t q p = said-of P w want t q p stage.Update b k e in
       record {
         rise = subst (RisesBy (λ n. n.vertex)) (sym is) (true-values-rise P t S q p);
         known = subst (λ rs. All (λ n. IsSome (row rs n.vertex)) (values_of b)) (sym er) (subst (All (λ n. IsSome (row (rows_at P t p) n.vertex))) (sym is) (All-from_recursion _ _ (true-values-known P t S q p)));
       })
 
   pub signals-rise : (qs : List ℕ) → SignalsRise inbox co.epoch qs
-  signals-rise = All-bodies _ stage.Signal (λ q b k e. subst (RisesBy (λ v. v)) (sym (signals-true P w want t q p b k e)) (true-signals-rise P t S q p))
+  signals-rise = All-bodies _ stage.Signal (λ q b k e. subst (RisesBy (λ v. v)) (sym (said-of P w want t q p stage.Signal b k e)) (true-signals-rise P t S q p))
 
   pub calls-rise : (qs : List ℕ) → CallsRise inbox co.epoch qs
-  calls-rise = All-bodies _ stage.Call (λ q b k e. subst (RisesBy (λ v. v)) (sym (calls-true P w want t q p b k e)) (true-calls-rise P t S q p))
+  calls-rise = All-bodies _ stage.Call (λ q b k e. subst (RisesBy (λ v. v)) (sym (said-of P w want t q p stage.Call b k e)) (true-calls-rise P t S q p))

@@ -1,5 +1,5 @@
 -- What the bodies meet that a place was sent in a rebuild, and the copies that are granted to it.
-use Rattle.std.proofs.Common.{◌≡◌, ℕ, List, [], ◌∷◌, ◌++◌, true, map, flat_map, find, sym, subst, arith, Option, Some, None, if◌then◌else◌}
+use Rattle.std.proofs.Common.{◌≡◌, ℕ, List, [], ◌∷◌, ◌++◌, true, map, flat_map, find, sym, subst, Option, Some, None, if◌then◌else◌}
 use Rattle.std.specs.Prelude.{IfSome}
 use Rattle.std.specs.List.{All, AllByRecursion as Each}
 use Rattle.std.proofs.lemmas.List.Elements.{All-from_recursion}
@@ -8,11 +8,10 @@ use Rattle.gr_program.specs.Program.{Program}
 use Rattle.gr_copies.specs.declared.view.RebuildView.{RebuildView}
 use Rattle.gr_batch.specs.declared.batch.Batch.{Batch}
 use Rattle.gr_batch.specs.declared.body.Body.{Body}
-use Rattle.gr_batch.specs.declared.body.Body.TheVariants as body
 use Rattle.gr_batch.specs.declared.stage.Stage.{Stage}
 use Rattle.gr_batch.specs.declared.stage.Stage.TheVariants as stage
 use Rattle.gr_batch.specs.Stages.{code_of}
-use Rattle.gr_batch.specs.Bodies.{stage_of_body, is_of, asks_of, grants_of}
+use Rattle.gr_batch.specs.Bodies.{stage_of_body, is_of, grants_of}
 use Rattle.gr_rules.specs.Inbox.{bodies}
 use Rattle.gr_rules.specs.Grants.{granted_copy, is_granted_to, grant_body}
 use Rattle.gr_rebuild.proofs.Lists.{Each-flat_map}
@@ -21,33 +20,15 @@ use Rattle.gr_cluster.specs.Todo.{others}
 use Rattle.gr_cluster.specs.Place.{asked_for, granted_to, granted}
 use Rattle.gr_agree.specs.Truth.{Truth}
 use Rattle.gr_agree.specs.TrueBody.{TrueBody}
-use Rattle.gr_agree.specs.Rebuilt.{true_asks, true_grants}
 use Rattle.gr_agree.specs.Network.{BatchHolds}
 use Rattle.gr_agree.specs.Agree.{Agree}
 use Rattle.gr_lists.proofs.Each.{Each-append, Each-weaker}
 use Rattle.gr_lists.proofs.Chosen.{if-some, Each-find, Each-filter_map}
+use Rattle.gr_law_rounds.proofs.Round.Codes.{said-of}
 use Rattle.gr_law_rounds.proofs.Round.Brought.{true-there}
 use Rattle.gr_law_rebuilds.proofs.Rebuild.Once.{put-all}
 use Rattle.gr_law_work.specs.InRebuild.{HasId}
 use Rattle.gr_law_work.proofs.Relies.Rows.{grants-ids}
-
--- the true bodies of the stages in which batches are sent
-module _ {V A : Type 0} (P : Program V A) (w : RebuildView) (want : ℕ) (t : Truth V) (q p : ℕ) where
-  pub asks-true : (b : Body V A) → TrueBody P w want t q p b → 4 ≡ code_of (stage_of_body b) → asks_of b ≡ true_asks w t q p
-  asks-true (body.Ask xs) h e = h
-  asks-true (body.Gather xs) h e = absurd (omega (arith, e))
-  asks-true (body.Update xs) h e = absurd (omega (arith, e))
-  asks-true (body.Signal xs) h e = absurd (omega (arith, e))
-  asks-true (body.Call xs) h e = absurd (omega (arith, e))
-  asks-true (body.Grant xs) h e = absurd (omega (arith, e))
-
-  grants-true : (b : Body V A) → TrueBody P w want t q p b → 5 ≡ code_of (stage_of_body b) → grants_of b ≡ true_grants P w want t q p
-  grants-true (body.Grant xs) h e = h
-  grants-true (body.Gather xs) h e = absurd (omega (arith, e))
-  grants-true (body.Update xs) h e = absurd (omega (arith, e))
-  grants-true (body.Signal xs) h e = absurd (omega (arith, e))
-  grants-true (body.Call xs) h e = absurd (omega (arith, e))
-  grants-true (body.Ask xs) h e = absurd (omega (arith, e))
 
 module _ {V A : Type 0} (P : Program V A) (t : Truth V) (c : Cluster V A) (AG : Agree P t c) (p : ℕ) (h : Host V A) (at : host c p ≡ Some h) (now : h.epoch ≡ c.coordinator.epoch) where
   abbrev w : RebuildView
@@ -79,7 +60,7 @@ module _ {V A : Type 0} (P : Program V A) (t : Truth V) (c : Cluster V A) (AG : 
   -- the copies that others granted to it
   sent-ids : (qs : List ℕ) → Each HasId (flat_map grants_of (bodies h.inbox h.epoch stage.Grant qs))
   sent-ids qs = Each-flat_map HasId grants_of (bodies h.inbox h.epoch stage.Grant qs) (Each-bodies (λ b. Each HasId (grants_of b)) stage.Grant (λ q b is code.
-      subst (Each HasId) (sym (grants-true P w want t q p b is code)) (grants-ids P t AG.committed.sound w want q p)) qs)
+      subst (Each HasId) (sym (said-of P w want t q p stage.Grant b is code)) (grants-ids P t AG.committed.sound w want q p)) qs)
 
   -- and those that it grants
   abbrev own-copy : ℕ → VertexCopy V → Option (VertexCopy V)

@@ -9,8 +9,6 @@ use Rattle.gr_program.specs.Program.{Program}
 use Rattle.gr_batch.specs.declared.stage.Stage.{Stage}
 use Rattle.gr_batch.specs.Stages.{is_end}
 use Rattle.gr_view.specs.declared.coordinator.Coordinator.{Coordinator}
-use Rattle.gr_view.specs.declared.coordinator.Mode.{Mode}
-use Rattle.gr_view.specs.declared.coordinator.Mode.TheVariants as mode
 use Rattle.gr_view.specs.Modes.{is_open, is_over, is_rebuild}
 use Rattle.gr_rules.specs.Exchange.{needed, unsent}
 use Rattle.gr_rules.specs.Todo.{Todo, compute_or_wait, send_or_rest}
@@ -28,20 +26,14 @@ use Rattle.gr_lists.proofs.Each.{Each-always}
 use Rattle.gr_lists.proofs.Any.{find-any}
 use Rattle.gr_law_rounds.specs.Network.{IsKept}
 use Rattle.gr_law_rebuilds.proofs.Rebuild.Stages.{IsRebuildStage, by_stage}
-use Rattle.gr_law_rebuilds.proofs.Rebuild.Todo.{case-todo}
-use Rattle.gr_law_rebuilds.proofs.Rebuild.InEpoch.{party, at-epoch}
+pub use Rattle.gr_law_rebuilds.proofs.Rebuild.Stages.{not-over}
+use Rattle.gr_law_rebuilds.proofs.Rebuild.Todo.{todo-meets}
+use Rattle.gr_law_rounds.proofs.Round.InEpoch.{party}
+use Rattle.gr_law_rebuilds.proofs.Rebuild.InEpoch.{at-epoch}
 use Rattle.gr_law_rebuilds.proofs.Rebuild.Report.{report-kept}
 use Rattle.gr_rebuild.specs.Ending.{IsAllCommitted}
 use Rattle.gr_law_work.specs.InRebuild.{MayReport}
 use Rattle.gr_law_work.proofs.Relies.Lists.{places-few}
-
-pub not-over : (m : Mode) → is_rebuild m ≡ true → is_over m ≡ false
-not-over mode.Recovering e = refl
-not-over mode.Repairing e = refl
-not-over mode.Running e = refl
-not-over mode.Failed e = refl
-not-over mode.Done e = absurd (let bad : false ≡ true = e in cc)
-not-over mode.Lost e = absurd (let bad : false ≡ true = e in cc)
 
 pub of-rebuild : (s : Stage) → IsRebuildStage s → IsTrue (is_of_rebuild s)
 of-rebuild = by_stage (λ s. IsTrue (is_of_rebuild s)) refl refl refl
@@ -88,15 +80,7 @@ module _ {V A : Type 0} (P : Program V A) (t : Truth V) (c : Cluster V A) (AG : 
       record { not_torn = E.not_torn; nothing = E.tail ∙ ap (λ b. if b then true_records P (view_of P c) (wanted_in P c) t p else []) fresh }
 
   pub append-ready : todo c.coordinator p h ≡ Todo.Append → IsAllCommitted (log c p)
-  append-ready = case-todo c.coordinator p h rebuilding over (λ x. x ≡ Todo.Append → IsAllCommitted (log c p))
-      (λ e. absurd (cc))
-      (λ s q e. absurd (cc))
-      (λ _ e. absurd (cc))
-      (λ _ _ e. absurd (cc))
-      (λ _ _ _ _ e. absurd (cc))
-      (λ q _ _ _ _ _ e. absurd (cc))
-      (λ _ _ _ _ fresh e. at-commit fresh)
-      (λ _ _ _ _ _ _ e. absurd (cc))
+  append-ready e = at-commit (todo-meets c.coordinator p h rebuilding over Todo.Append e)
 
   -- the report leaves a cluster that agrees, where the sum is bounded
   sum-after : IsKept P t c (worked P c p h Todo.Report).0 → c.coordinator.due + due_count p h.pending < 2 ^ 32
@@ -108,19 +92,11 @@ module _ {V A : Type 0} (P : Program V A) (t : Truth V) (c : Cluster V A) (AG : 
       omega (arith, few, fits)
 
   not-yet : h.reported ≡ false → IsTrue (not (has c.coordinator.ready p))
-  not-yet fresh = ap not (AG.open_work.reports.ready p h at (party P t c AG rebuilding p h at) ∙ (ap (λ b. (h.epoch == c.coordinator.epoch) && b) fresh ∙ and_right (h.epoch == c.coordinator.epoch) false refl))
+  not-yet fresh = ap not (AG.open_work.reports.ready p h at (party P t c AG p h at) ∙ (ap (λ b. (h.epoch == c.coordinator.epoch) && b) fresh ∙ and_right (h.epoch == c.coordinator.epoch) false refl))
 
   pub report-ready : todo c.coordinator p h ≡ Todo.Report → MayReport c.coordinator p (due_count p h.pending)
-  report-ready = case-todo c.coordinator p h rebuilding over (λ x. x ≡ Todo.Report → MayReport c.coordinator p (due_count p h.pending))
-      (λ e. absurd (cc))
-      (λ s q e. absurd (cc))
-      (λ _ e. absurd (cc))
-      (λ _ _ e. absurd (cc))
-      (λ _ _ _ _ e. absurd (cc))
-      (λ q _ _ _ _ _ e. absurd (cc))
-      (λ _ _ _ _ _ e. absurd (cc))
-      (λ _ _ comp end appended fresh e. record {
-        party = party P t c AG rebuilding p h at;
-        first = not-yet fresh;
-        sum = sum-after (report-kept P t c AG rebuilding p h at le le' comp end appended fresh);
-      })
+  report-ready e = let m = todo-meets c.coordinator p h rebuilding over Todo.Report e in record {
+    party = party P t c AG p h at;
+    first = not-yet m.3;
+    sum = sum-after (report-kept P t c AG rebuilding p h at le le' m.0 m.1 m.2 m.3);
+  }

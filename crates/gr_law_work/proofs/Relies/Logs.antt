@@ -1,43 +1,28 @@
 -- What the logs of the places that retire say in a rebuild.
-use Rattle.std.proofs.Common.{◌≡◌, ℕ, true, ◌==◌, map, length, sym, ap, ◌∙◌, subst, Some, eqb-true}
+use Rattle.std.proofs.Common.{◌≡◌, ℕ, true, sym, ◌∙◌, subst}
 use Rattle.std.specs.List.{All, AllByRecursion as Each}
 use Rattle.std.proofs.lemmas.Bool.{and_parts}
 use Rattle.std.proofs.lemmas.List.Elements.{All-from_recursion}
-use Rattle.gr_base.specs.Rising.{RisesBy, has}
+use Rattle.gr_base.specs.Rising.{has}
 use Rattle.gr_base.specs.Places.{below}
-use Rattle.gr_base.proofs.Ranges.{range-rises}
 use Rattle.gr_program.specs.Program.{Program}
 use Rattle.gr_copies.specs.declared.view.RebuildView.{RebuildView}
 use Rattle.gr_copies.specs.Granter.{is_retiring}
-use Rattle.gr_log.specs.Directory.{KeepsEachOnce, directory_in}
+use Rattle.gr_log.specs.Directory.{directory_in}
 use Rattle.gr_view.specs.Modes.{is_rebuild}
 use Rattle.gr_rules.specs.Taken.{log_at}
 use Rattle.gr_migrate.specs.Ends.{KnowsMaster, retiring, MastersKnown}
-use Rattle.gr_migrate.specs.Asks.{KeptOnce}
 use Rattle.gr_cluster.specs.Tables.{Cluster, view_of}
-use Rattle.gr_agree.specs.Truth.{Truth, held, held_at, place_of, arcs_at, true_entry, entries_at}
+use Rattle.gr_agree.specs.Truth.{Truth, held, held_at, true_entry, entries_at}
 use Rattle.gr_agree.specs.Logs.{Sound}
 use Rattle.gr_agree.specs.Agree.{Agree}
 use Rattle.gr_lists.proofs.Each.{Each-has, Each-filter}
 use Rattle.gr_lists.proofs.Any.{has-filter}
-use Rattle.gr_lists.proofs.Maps.{Each-map, rises-map}
-use Rattle.gr_law_rebuilds.proofs.Rebuild.Logged.{IsSaid, number}
+use Rattle.gr_lists.proofs.Maps.{Each-map}
+use Rattle.gr_law_rebuilds.proofs.Rebuild.Logged.{IsSaid}
 use Rattle.gr_law_rebuilds.proofs.Rebuild.Parties.{said-retiring}
-use Rattle.gr_law_work.proofs.Relies.Lists.{numbered-passes}
 
 module _ {V A : Type 0} (P : Program V A) (t : Truth V) (S : Sound P t) where
-  pub edges-rise : RisesBy number t.edges
-  edges-rise = rises-map number (λ n. n) t.edges (subst (RisesBy (λ n. n)) (sym S.numbers) (range-rises 0 (length t.edges)))
-
-  -- an edge stands at one place
-  one-place : (r q n : ℕ) → has (map number (arcs_at t r)) n ≡ true → has (map number (arcs_at t q)) n ≡ true → r ≡ q
-  unfolding arcs_at
-  one-place r q n here there =
-      let a = numbered-passes number (λ a. place_of t a == r) t.edges edges-rise n here in
-      let b = numbered-passes number (λ a. place_of t a == q) t.edges edges-rise n there in
-      let both : Some a.0 ≡ Some b.0 = sym a.1 ∙ b.1 in let same : a.0 ≡ b.0 = cc in
-      sym (eqb-true _ _ a.2) ∙ (ap (place_of t) same ∙ eqb-true _ _ b.2)
-
   entries-known : (r : ℕ) → Each KnowsMaster (entries_at t r)
   unfolding entries_at
   entries-known r = Each-map KnowsMaster (true_entry t) (held_at t r) (Each-filter (λ v. KnowsMaster (true_entry t v)) (held t r) t.vertices (Each-has _ t.vertices (λ v m. S.master_holds v m)))
@@ -55,11 +40,3 @@ module _ {V A : Type 0} (P : Program V A) (t : Truth V) (c : Cluster V A) (AG : 
   pub masters-known : MastersKnown w c.logs
   masters-known = All-from_recursion (λ r. All KnowsMaster (directory_in (log_at c.logs r).committed)) (retiring w) (Each-has _ (retiring w) (λ r m.
       All-from_recursion KnowsMaster (directory_in (log_at c.logs r).committed) (subst (Each KnowsMaster) (sym (said-there r m).entries) (entries-known P t AG.committed.sound r))))
-
-  pub kept-once : KeptOnce w c.logs
-  kept-once = record {
-    in_each = All-from_recursion (λ r. KeepsEachOnce (log_at c.logs r).committed) (retiring w) (Each-has _ (retiring w) (λ r m. (said-there r m).once));
-    in_one = λ r q n mr mq here there. one-place P t AG.committed.sound r q n
-        (subst (λ l. has (map number l) n ≡ true) (said-there r mr).edges here)
-        (subst (λ l. has (map number l) n ≡ true) (said-there q mq).edges there);
-  }

@@ -17,12 +17,11 @@ use Rattle.gr_agree.specs.Agree.{Agree}
 use Rattle.gr_law_rounds.proofs.Network.Frame.{within}
 use Rattle.gr_law_rebuilds.proofs.Rebuild.InEpoch.{the-mode, stable-is, stage-here}
 use Rattle.gr_law_work.specs.InRebuild.{HasId, MayRebuild}
-use Rattle.gr_law_work.proofs.Relies.Logs.{masters-known, kept-once}
+use Rattle.gr_law_work.proofs.Relies.Logs.{masters-known}
 use Rattle.gr_law_work.proofs.Relies.Rows.{masters-hold, stable-ids}
 use Rattle.gr_law_work.proofs.Relies.Others.{other-places}
 use Rattle.gr_law_work.proofs.Relies.Granted.{granted-ids}
 use Rattle.gr_law_work.proofs.Relies.Repair.{may-repair}
-use Rattle.gr_law_work.proofs.Relies.Taken.{new-edges}
 use Rattle.gr_law_work.proofs.Relies.Unstaged.{same-layers}
 use Rattle.gr_law_work.proofs.Relies.Line.{of-rebuild, todo-rebuild, awaits-sending, append-ready, report-ready}
 
@@ -41,7 +40,6 @@ module _ {V A : Type 0} (P : Program V A) (t : Truth V) (c : Cluster V A) (p : �
         place = in-place;
         places = AG.committed.shaped.few;
         masters = masters-known P t c AG rebuilding;
-        kept_once = kept-once P t c AG rebuilding;
         holders = All-from_recursion (λ k. KnowsMaster (entry k)) h.stable (subst (Each (λ k. KnowsMaster (entry k))) (sym stable) (masters-hold P t S (view_of P c) (wanted_in P c) p));
         ids = All-from_recursion HasId h.stable ids;
         askers = are-askers h.inbox h.epoch (others c.coordinator p) places;
@@ -49,7 +47,6 @@ module _ {V A : Type 0} (P : Program V A) (t : Truth V) (c : Cluster V A) (p : �
         recovery = λ e q. ap (λ m. grant_body (view_of P c) (wanted (is_repair m) (view_of P c)) p (asked_for P c p h) h.stable q) e;
         repair = λ e. may-repair P t c AG e p h at now stable;
         same_layers = same-layers P t c AG rebuilding p h at le le';
-        new_edges = new-edges P t c AG rebuilding p h at le le' now;
         granted_ids = granted-ids P t c AG p h at now ids;
         stage = of-rebuild h.stage (stage-here P t c AG rebuilding p h at le le');
         awaits = awaits-sending P t c AG rebuilding p h at le le';

@@ -28,7 +28,8 @@ use Rattle.gr_law_rounds.proofs.Network.Kept.{up-party}
 use Rattle.gr_law_rebuilds.proofs.Rebuild.Parties.{party-cases, stable-live}
 use Rattle.gr_law_work.specs.InRebuild.{MayRepair}
 use Rattle.gr_law_work.proofs.Relies.Lists.{all-each}
-use Rattle.gr_law_work.proofs.Relies.Granted.{asks-true, Each-bodies}
+use Rattle.gr_law_rounds.proofs.Round.Codes.{said-of}
+use Rattle.gr_law_work.proofs.Relies.Granted.{Each-bodies}
 use Rattle.gr_law_work.proofs.Relies.Rows.{rows-meet}
 
 module _ {V A : Type 0} (P : Program V A) (t : Truth V) (c : Cluster V A) (AG : Agree P t c) where
@@ -86,7 +87,7 @@ module _ {V A : Type 0} (P : Program V A) (t : Truth V) (c : Cluster V A) (AG : 
       unasked : (v : ℕ) → asked_for P c p h v ≡ []
       unasked v = filter-none _ (others c.coordinator p) (list_any-none _ (others c.coordinator p) (Each-always _ (λ q.
           list_any-none (λ b. has (asks_of b) v) (bodies h.inbox h.epoch stage.Ask (q ∷ []))
-          (Each-bodies P t c AG p h at now (λ b. has (asks_of b) v ≡ false) stage.Ask (λ r b is code. ap (λ l. has l v) (asks-true P w want t r p b is code ∙ asks-nobody r p)) (q ∷ []))) (others c.coordinator p)))
+          (Each-bodies P t c AG p h at now (λ b. has (asks_of b) v ≡ false) stage.Ask (λ r b is code. ap (λ l. has l v) (said-of P w want t r p stage.Ask b is code ∙ asks-nobody r p)) (q ∷ []))) (others c.coordinator p)))
 
       pub may-repair : MayRepair P c p h
       may-repair = record {

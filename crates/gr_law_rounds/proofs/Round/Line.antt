@@ -13,7 +13,7 @@ use Rattle.gr_cluster.specs.Stages.{stages_of, has_stage}
 use Rattle.gr_cluster.specs.Work.{exchange_of, in_exchange}
 use Rattle.gr_agree.specs.Network.{is_shown}
 use Rattle.gr_lists.proofs.Tests.{by_test}
-use Rattle.gr_law_rounds.proofs.Round.Passing.{same-code}
+use Rattle.gr_law_rounds.proofs.Round.Codes.{same-code}
 
 -- a host of the epoch, in a stage of the mode in which batches are sent
 module _ {V A : Type 0} (co : Coordinator) (h : Host V A) (now : (h.epoch == co.epoch) ≡ true) (listed : has_stage (stages_of co.mode) h.stage ≡ true) (sends : is_end h.stage ≡ false)
