@@ -3,7 +3,8 @@ use Rattle.std.specs.Prelude.{ℕ, ◌+◌, ◌-◌, ◌*◌, ◌≡◌, ◌≢�
 use Rattle.std.specs.List.{AllByRecursion as Each}
 use Rattle.gr_base.specs.declared.records.Edge.{Edge}
 use Rattle.gr_base.specs.Degrees.{outdegree}
-use Rattle.gr_program.specs.Program.{Program, ProgramLaws}
+use Rattle.gr_program.specs.Program.{Program}
+use Rattle.gr_program.specs.ProgramLaws.{ProgramLaws}
 use Rattle.gr_batch.specs.declared.body.Body.{Body}
 use Rattle.gr_batch.specs.declared.outcome.Outcome.{Outcome}
 use Rattle.gr_batch.specs.declared.outcome.Outcome.TheVariants as outcome

@@ -3,14 +3,15 @@ use Rattle.std.specs.Prelude.{ℕ, ◌≡◌, ◌≢◌, ◌⊎◌, false, not, 
 use Rattle.std.specs.List.{filter, list_any, AllByRecursion as Each}
 use Rattle.gr_base.specs.declared.records.Edge.{Edge}
 use Rattle.gr_base.specs.Rising.{has, includes}
-use Rattle.gr_program.specs.Program.{Program, ProgramLaws}
+use Rattle.gr_program.specs.Program.{Program}
+use Rattle.gr_program.specs.ProgramLaws.{ProgramLaws}
 use Rattle.gr_program.specs.Result.{result_text}
 use Rattle.gr_sched.specs.declared.event.Line.{Line}
 use Rattle.gr_sched.specs.declared.event.Line.TheVariants as line
 use Rattle.gr_view.specs.declared.coordinator.Mode.TheVariants as mode
 use Rattle.gr_cluster.specs.Tables.{Cluster}
 use Rattle.gr_cluster.specs.Load.{Setting, load}
-use Rattle.gr_cluster.specs.GraphIn.{directory_of}
+use Rattle.gr_cluster.specs.Directory.{directory_of}
 use Rattle.gr_cluster.specs.Step.{lost_list}
 use Rattle.gr_cluster.specs.Runs.{Played, IsRun}
 use Rattle.gr_cluster.specs.Budget.{IsWithinBudget}

@@ -10,7 +10,8 @@ use Rattle.gr_log.specs.Log.{Log}
 use Rattle.gr_log.specs.Directory.{edges_in, with_items}
 use Rattle.gr_batch.specs.declared.batch.Batch.{Batch}
 use Rattle.gr_batch.specs.declared.stage.Stage.{Stage}
-use Rattle.gr_batch.specs.Stages.{place_in, is_end}
+use Rattle.gr_batch.specs.Stages.{is_end}
+use Rattle.gr_batch.specs.Order.{place_in}
 use Rattle.gr_batch.specs.Bodies.{is_of}
 use Rattle.gr_view.specs.declared.coordinator.Coordinator.{Coordinator}
 use Rattle.gr_view.specs.Modes.{is_open, is_failed, is_rebuild}

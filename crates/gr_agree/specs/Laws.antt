@@ -4,7 +4,8 @@ use Rattle.gr_base.specs.declared.records.Edge.{Edge}
 use Rattle.gr_base.specs.declared.records.NumberedEdge.{NumberedEdge}
 use Rattle.gr_base.specs.Rising.{has}
 use Rattle.gr_program.specs.declared.copy.VertexCopy.{VertexCopy}
-use Rattle.gr_program.specs.Program.{Program, ProgramLaws}
+use Rattle.gr_program.specs.Program.{Program}
+use Rattle.gr_program.specs.ProgramLaws.{ProgramLaws}
 use Rattle.gr_batch.specs.declared.outcome.Outcome.{Outcome}
 use Rattle.gr_batch.specs.declared.outcome.Outcome.TheVariants as outcome
 use Rattle.gr_sched.specs.declared.event.Event.{Event}

@@ -1,5 +1,5 @@
 -- The committed state in itself, and the committed logs that say it.
-use Rattle.std.specs.Prelude.{ℕ, ◌≡◌, ◌<◌, ◌≤◌, ◌^◌, false, IsTrue, map, length}
+use Rattle.std.specs.Prelude.{ℕ, ◌≡◌, ◌<◌, ◌≤◌, ◌^◌, false, IsTrue, List, map, length}
 use Rattle.std.specs.List.{AllByRecursion as Each}
 use Rattle.gr_base.specs.declared.records.NumberedEdge.{NumberedEdge}
 use Rattle.gr_base.specs.Rising.{RisesBy, has, includes}
@@ -7,8 +7,9 @@ use Rattle.gr_base.specs.Places.{IsPlaces, below}
 use Rattle.gr_program.specs.Program.{Program}
 use Rattle.gr_view.specs.declared.coordinator.Mode.TheVariants as mode
 use Rattle.gr_view.specs.declared.coordinator.Coordinator.{Coordinator}
+use Rattle.gr_log.specs.declared.record.LogRecord.{LogRecord}
 use Rattle.gr_log.specs.Log.{Log}
-use Rattle.gr_log.specs.Directory.{directory_in, edges_in, KeepsEachOnce}
+use Rattle.gr_log.specs.Directory.{directory_in, edges_in, kept_edges}
 use Rattle.gr_agree.specs.Truth.{Truth, held, place_of, arcs_at, entries_at, hidden}
 
 -- the graph, the directory and the marks are sound
@@ -32,6 +33,10 @@ pub record Sound {V A : Type 0} (P : Program V A) (t : Truth V) : Type 0 where
   pub due_active : (v : ℕ) → hidden P t v ≡ false → t.due v ≡ t.state.active v
   -- a master lacks a value only of a vertex that is due, and so is applied again
   pub not_due_kept : (v : ℕ) → t.due v ≡ false → IsTrue (t.kept v)
+
+-- no two records keep one edge
+abbrev pub KeepsEachOnce : List LogRecord → Type 0
+KeepsEachOnce rs = length (edges_in rs) ≡ length (kept_edges rs)
 
 -- the committed logs say this graph and directory
 pub record LogsHold {V : Type 0} (t : Truth V) (places threshold : ℕ) (co : Coordinator) (log_of : ℕ → Log) : Type 0 where

@@ -1,6 +1,7 @@
 #![tactic(auto, unfolding(crate::specs::Index::IsLaidOut))]
 
-ghost use Rattle.std.specs.Prelude.{◌≡◌, ◌<◌, ◌≤◌, ◌+◌, ◌^◌, [], OnOk, OnErr, IsNone, IfSome, slice_get, nat_lt, length, filter, find, is_some, ◌==◌};
+ghost use Rattle.std.specs.Prelude.{◌≡◌, ◌<◌, ◌≤◌, ◌+◌, ◌^◌, [], ◌==◌};
+ghost use Rattle.std.specs.Prelude.{OnOk, OnErr, IsNone, IfSome, slice_get, nat_lt, length, filter, find, is_some};
 ghost use Rattle.std.specs.List.{prefix_len};
 ghost use Rattle.std.specs.Vec.{vec_len, vec_capacity};
 ghost use Rattle.gr_base.specs.Rising.{RisesBy, with_item};
@@ -19,8 +20,8 @@ use std::marker::Model;
 /// into `pending`, which counts from the next `install` on.
 ///
 /// The stable edges stand in two indices as well, by target and by source, and each index has hints that say where a
-/// search for a vertex begins, so that its edges are mostly found in constant time. Neither `install` nor `discard` takes
-/// memory: `stage_edge` has reserved in each layer, and in each index, the room for the other.
+/// search for a vertex begins, so that its edges are mostly found in constant time. Neither `install` nor `discard`
+/// takes memory: `stage_edge` has reserved in each layer, and in each index, the room for the other.
 #[derive(Drop)]
 pub struct Arcs {
     stable: Vec<NumberedEdge>,
@@ -90,8 +91,8 @@ impl Arcs {
         holds_number(self.pending.as_slice(), number)
     }
 
-    /// The stable edges into a vertex, in rising number, mostly found in constant time. It takes at most time logarithmic
-    /// in the number of edges.
+    /// The stable edges into a vertex, in rising number, mostly found in constant time. It takes at most time
+    /// logarithmic in the number of edges.
     pub fn edges_into(&self, v: u32) -> &[NumberedEdge]
         ensures edges { result.now ≡ filter (λ e. e.edge.dst == v) self.now.stable }
         ensures rise { EdgesRise self.now }
@@ -164,7 +165,8 @@ impl Arcs {
     /// `OutOfMemory` if memory runs out. Then both layers are as before.
     pub fn stage_edges(&mut self, alloc: Global, edges: &[NumberedEdge]) -> Result<(), OutOfMemory>
         requires rise { RisesBy number_of edges.now }
-        ensures ok { OnOk result (self.new ≡ record self.old { pending = with_items number_of edges.now self.old.pending }) }
+        ensures ok { OnOk result (self.new
+            ≡ record self.old { pending = with_items number_of edges.now self.old.pending }) }
         ensures err { OnErr result (self.new ≡ self.old) }
     {
         let all = merge(alloc, self.pending.as_slice(), edges)?;

@@ -37,8 +37,8 @@ pub fn fill_hints(hints: &mut SearchHints, end: End, index: &[NumberedEdge]) {
     hints.end(index.len());
 }
 
-/// How many edges of an index have at this end a vertex below a number. It takes constant time if the hints are those of
-/// the index and their buckets have few edges, and else at most logarithmic time.
+/// How many edges of an index have at this end a vertex below a number. It takes constant time if the hints are those
+/// of the index and their buckets have few edges, and else at most logarithmic time.
 fn count_below(hints: &SearchHints, index: &[NumberedEdge], end: End, bound: u64) -> usize
     requires { IsNonDecreasingBy (λ e. vertex_at end e.edge) index.now }
     ensures count { result ≡ prefix_len (λ e. nat_lt (vertex_at end e.edge) bound) index.now }
@@ -62,8 +62,8 @@ fn count_below_anywhere(index: &[NumberedEdge], end: End, bound: u64) -> usize
     index.partition_point(|edge| u64::from(end.of(&edge.edge)) < bound)
 }
 
-/// Whether the edges before a position have at this end a vertex below a number, and those from there on do not. It looks
-/// at the two beside the position, since the vertices do not fall.
+/// Whether the edges before a position have at this end a vertex below a number, and those from there on do not. It
+/// looks at the two beside the position, since the vertices do not fall.
 fn divides(index: &[NumberedEdge], at: usize, end: End, bound: u64) -> bool
     requires sorted { IsNonDecreasingBy (λ e. vertex_at end e.edge) index.now }
     requires within { at ≤ length index.now }

@@ -9,7 +9,8 @@ use Rattle.std.proofs.lemmas.Bool.{true≢false, cases_Bool, eq-eqb, ne_eqb, eqb
 use Rattle.std.proofs.lemmas.Nat.Bits.{bit_at_set_same, bit_at_set_other, bit_at_clear_same, bit_at_clear_other, bit_at-zero, bit_at_and, shr_and_one, bit_at-trailing_zeros, bit_at_mask_inside, bit_at_mask_below, ones_shl, bit_at-lt, bit_at_ones, bit_at_ones_above}
 use lib.Count.{ones, ones_step}
 use Rattle.std.proofs.Math.Nat.{mod-one, div-one, mod-eq_of_lt}
-use Rattle.gr_base.specs.Places.{IsPlaces, members_from, is_bit, word_of, with_place, without_place, first_from}
+use Rattle.gr_base.specs.Places.{IsPlaces, word_of, with_place, without_place, first_from}
+use Rattle.gr_base.specs.PlaceBits.{members_from, is_bit}
 use Rattle.gr_base.specs.Words.{bits_step, word_of-members}
 use Rattle.std.proofs.lemmas.List.Elements.{All-from_get_or, Contains-get_or}
 use Rattle.gr_base.proofs.Rising.{rises-from_increasing}

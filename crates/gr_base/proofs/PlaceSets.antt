@@ -5,7 +5,8 @@ use Rattle.std.specs.List.{All}
 use Rattle.std.proofs.Math.Bool.{and-true}
 use Rattle.std.proofs.lemmas.Bool.{cases_Bool, cases_eq, eq-eqb, ne_eqb, and_from, and_left, and_right, or_left, lt-ltb, le-ltb, ltb-true, ltb-false}
 use Rattle.gr_base.specs.Rising.{RisesBy, has}
-use Rattle.gr_base.specs.Places.{IsPlaces, members_from, with_place}
+use Rattle.gr_base.specs.Places.{IsPlaces, with_place}
+use Rattle.gr_base.specs.PlaceBits.{members_from}
 use Rattle.gr_base.proofs.Rising.{rises-head, rises-tail, none-later}
 use Rattle.gr_base.proofs.Members.{members_on, members_off, members_same, members_with, members_none}
 

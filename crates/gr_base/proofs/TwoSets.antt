@@ -7,7 +7,8 @@ use Rattle.std.proofs.lemmas.Nat.Bits.{bit_at_and, bit_at_or, bit_at_not, bit_at
 use Rattle.std.proofs.lemmas.List.Elements.{All-from_get_or}
 use Rattle.std.proofs.lemmas.List.Folds.{list_any_at}
 use Rattle.gr_base.specs.Rising.{has, without, union, includes}
-use Rattle.gr_base.specs.Places.{IsPlaces, members_from, is_bit}
+use Rattle.gr_base.specs.Places.{IsPlaces}
+use Rattle.gr_base.specs.PlaceBits.{members_from, is_bit}
 use Rattle.gr_base.proofs.Members.{members_same, members_filter, members_contains, passes_from_contains}
 use Rattle.gr_base.proofs.PlaceTests.{has-contains, is_has}
 use Rattle.gr_base.proofs.PlaceSets.{places-has}

@@ -1,18 +1,8 @@
 -- Sets of places, as rising lists.
-use Rattle.std.specs.Prelude.{ℕ, zero, suc, ◌+◌, ◌^◌, ◌<◌, Bool, ◌==◌, not, nat_lt, nat_le, if◌then◌else◌, List, [], ◌∷◌, ◌++◌, Option, slice_get}
+use Rattle.std.specs.Prelude.{ℕ, ◌+◌, ◌^◌, ◌<◌, ◌==◌, not, nat_lt, nat_le, if◌then◌else◌, List, [], ◌∷◌, ◌++◌, Option, slice_get}
 use Rattle.std.specs.List.{All, filter, find, range_with_len}
 use Rattle.std.specs.Option.{option_or}
-use Rattle.std.specs.Int.{bit_at}
 use Rattle.gr_base.specs.Rising.{RisesBy}
-
--- Of the k numbers from a on those that pass the test, rising. A set of places is seen so, whatever holds its bits.
-unfoldable pub members_from : (ℕ → Bool) → ℕ → ℕ → List ℕ
-members_from test a zero = []
-members_from test a (suc k) = if test a then a ∷ members_from test (a + 1) k else members_from test (a + 1) k
-
--- bit p of a word is set
-abbrev pub is_bit : ℕ → ℕ → Bool
-is_bit word p = bit_at word p == 1
 
 -- every set: its places rise, and each is below 64
 pub record IsPlaces (ps : List ℕ) : Type 0 where

@@ -1,4 +1,5 @@
-ghost use Rattle.std.specs.Prelude.{◌≡◌, ◌≤◌, ◌<◌, ◌==◌, [], ◌∷◌, ◌++◌, length, insert, replicate, slice_set, OnOk, OnErr, IfOk};
+ghost use Rattle.std.specs.Prelude.{◌≡◌, ◌≤◌, ◌<◌, ◌==◌, [], ◌∷◌, ◌++◌};
+ghost use Rattle.std.specs.Prelude.{length, insert, replicate, slice_set, OnOk, OnErr, IfOk};
 
 use crate::OutOfMemory;
 use std::alloc::Global;

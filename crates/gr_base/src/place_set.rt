@@ -14,7 +14,8 @@ pub struct PlaceSet {
 impl Model for PlaceSet {
     ghost use Rattle.std.specs.Prelude.{List, ℕ, ◌<◌, ◌^◌};
     ghost use Rattle.std.proofs.Common.{ap};
-    ghost use Rattle.gr_base.specs.Places.{members_from, is_bit, word_of};
+    ghost use Rattle.gr_base.specs.Places.{word_of};
+    ghost use Rattle.gr_base.specs.PlaceBits.{members_from, is_bit};
     ghost use Rattle.gr_base.specs.Words.{word_of-members};
 
     ghost Value = { List ℕ };

@@ -5,7 +5,7 @@ use Rattle.std.proofs.lemmas.Bool.{cases_eq, ne_eqb}
 use Rattle.gr_base.specs.Places.{IsPlaces, word_of}
 use Rattle.gr_base.specs.Rising.{has}
 use Rattle.gr_program.specs.declared.copy.VertexCopy.{VertexCopy}
-use Rattle.gr_batch.specs.Telling.{value_told, copy_told}
+use Rattle.gr_batch.specs.CopyNumbers.{value_told, copy_told}
 use Rattle.gr_batch.specs.Spelling.{IsGranted}
 use Rattle.gr_batch.specs.Reading.{IsFront, HasNoFront}
 use Rattle.gr_batch.proofs.Words.{word_of-same}

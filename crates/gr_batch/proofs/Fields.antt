@@ -1,7 +1,7 @@
 -- Fields that lists of numbers begin with.
 use Rattle.std.proofs.Common.{◌≢◌, ℕ, Bool, true, false, cond, List, ◌∷◌, ◌++◌, Some, None}
 use Rattle.std.specs.Prelude.{⊤}
-use Rattle.gr_batch.specs.Telling.{value_told}
+use Rattle.gr_batch.specs.CopyNumbers.{value_told}
 use Rattle.gr_batch.specs.Reading.{HasNoFront}
 
 -- where no mark stands first, no value does

@@ -11,7 +11,8 @@ use Rattle.gr_batch.specs.declared.body.Body.TheVariants as body
 use Rattle.gr_batch.specs.declared.batch.Batch.{Batch}
 use Rattle.gr_batch.specs.Stages.{code_of}
 use Rattle.gr_batch.specs.Bodies.{stage_of_body}
-use Rattle.gr_batch.specs.Telling.{Telling, value_told, copy_told}
+use Rattle.gr_batch.specs.Telling.{Telling}
+use Rattle.gr_batch.specs.CopyNumbers.{value_told, copy_told}
 use Rattle.gr_batch.specs.Spelling.{number_bytes, body_numbers, batch_numbers, batch_bytes, IsShort, IsGranted, AreItems, AreSpelled, IsSpelled, NoSpellingBeginsAnother}
 use Rattle.gr_batch.specs.Reading.{IsFront}
 use Rattle.gr_batch.proofs.Apart.{IsApart, GoesOn, one-goes_on}

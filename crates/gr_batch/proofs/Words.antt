@@ -4,7 +4,8 @@ use Rattle.std.proofs.lemmas.Bool.{cases_Bool, cases_eq, lt-ltb, le-ltb, cond-tr
 use Rattle.std.proofs.lemmas.Nat.{pow-add, one_shl}
 use Rattle.std.proofs.Math.Nat.{pow-le-pow_right}
 use Rattle.std.proofs.lemmas.List.Elements.{All-cons, All-append}
-use Rattle.gr_base.specs.Places.{members_from, with_place, word_of, IsPlaces}
+use Rattle.gr_base.specs.Places.{with_place, word_of, IsPlaces}
+use Rattle.gr_base.specs.PlaceBits.{members_from}
 use Rattle.gr_base.specs.Rising.{RisesBy, has}
 use Rattle.gr_base.proofs.Members.{members_on, members_off, members_nil, members_same}
 use Rattle.gr_base.proofs.PlaceSets.{places-has}

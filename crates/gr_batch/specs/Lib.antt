@@ -1,4 +1,6 @@
 pub mod Bodies
+pub mod CopyNumbers
+pub mod Order
 pub mod Reading
 pub mod Spelling
 pub mod Stages

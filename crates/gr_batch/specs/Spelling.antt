@@ -9,7 +9,8 @@ use Rattle.gr_batch.specs.declared.body.Body.TheVariants as body
 use Rattle.gr_batch.specs.declared.batch.Batch.{Batch}
 use Rattle.gr_batch.specs.Stages.{code_of}
 use Rattle.gr_batch.specs.Bodies.{stage_of_body}
-use Rattle.gr_batch.specs.Telling.{Telling, copy_told}
+use Rattle.gr_batch.specs.Telling.{Telling}
+use Rattle.gr_batch.specs.CopyNumbers.{copy_told}
 
 -- the low seven bits of a number first, and each byte but the last marked by 128; k + 1 bytes at most
 abbrev pub groups : ℕ → ℕ → List ℕ

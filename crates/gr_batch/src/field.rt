@@ -1,7 +1,7 @@
 //! What stands at the front of a list of numbers.
 
 ghost use Rattle.std.specs.Prelude.{◌≡◌, ◌≢◌, ℕ, ◌<◌, ◌^◌, [], ◌∷◌, List, Bool, cond, ⊤, IfSome, IfNone};
-ghost use Rattle.gr_batch.specs.Telling.{value_told};
+ghost use Rattle.gr_batch.specs.CopyNumbers.{value_told};
 ghost use Rattle.gr_batch.specs.Reading.{IsFront, HasNoFront};
 
 use gr_program::Datum;

@@ -1,5 +1,5 @@
 ghost use Rattle.std.specs.Prelude.{◌≡◌, ◌∷◌, ◌++◌, length, flat_map, OnOk};
-ghost use Rattle.gr_batch.specs.Telling.{value_told};
+ghost use Rattle.gr_batch.specs.CopyNumbers.{value_told};
 
 use crate::field::{datum_at, mark_at, number_at, place_at, short_at, value_at};
 use crate::holders::{places_of, word_of};
@@ -118,7 +118,7 @@ impl<V: Datum> Item for NewValue<V> {
 }
 
 impl<V: Datum> Item for VertexCopy<V> {
-    ghost use Rattle.gr_batch.specs.Telling.{copy_told};
+    ghost use Rattle.gr_batch.specs.CopyNumbers.{copy_told};
     ghost use Rattle.gr_batch.specs.Spelling.{IsGranted};
 
     ghost told = { copy_told V.numbers_of };

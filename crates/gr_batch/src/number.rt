@@ -57,8 +57,10 @@ fn number_at(bytes: &[u8]) -> Option<(u64, &[u8])>
 
 // The numbers that all of the bytes spell, each in its shortest spelling.
 pub(crate) fn numbers_in(alloc: Global, bytes: &[u8]) -> Result<Option<Vec<u64>>, OutOfMemory>
-    ensures found { IfOk result (λ r. IfSome r (λ numbers. All (λ n. n < 2 ^ 64) numbers.items × (bytes.now ≡ flat_map number_bytes numbers.items))) }
-    ensures absent { IfOk result (λ r. IfNone r ((ns : List ℕ) → All (λ n. n < 2 ^ 64) ns → bytes.now ≢ flat_map number_bytes ns)) }
+    ensures found { IfOk result (λ r. IfSome r (λ numbers. All (λ n. n < 2 ^ 64) numbers.items
+        × (bytes.now ≡ flat_map number_bytes numbers.items))) }
+    ensures absent { IfOk result (λ r. IfNone r ((ns : List ℕ) → All (λ n. n < 2 ^ 64) ns
+        → bytes.now ≢ flat_map number_bytes ns)) }
 {
     let mut numbers = Vec::new(alloc);
     let mut rest = bytes;

@@ -27,8 +27,10 @@ pub fn decode<V: Datum, A: Datum>(
     bytes: &[u8],
 ) -> Result<Option<Batch<V, A>>, OutOfMemory>
     ensures ranges { IfOk result (λ r. IfSome r (λ batch. IsSpelled (telling V.numbers_of A.numbers_of) batch)) }
-    ensures found { IfOk result (λ r. IfSome r (λ batch. bytes.now ≡ batch_bytes (telling V.numbers_of A.numbers_of) batch)) }
-    ensures absent { IfOk result (λ r. IfNone r ((batch : TheBatch V A) → IsSpelled (telling V.numbers_of A.numbers_of) batch
+    ensures found { IfOk result (λ r. IfSome r (λ batch.
+        bytes.now ≡ batch_bytes (telling V.numbers_of A.numbers_of) batch)) }
+    ensures absent { IfOk result (λ r. IfNone r ((batch : TheBatch V A)
+        → IsSpelled (telling V.numbers_of A.numbers_of) batch
         → bytes.now ≢ batch_bytes (telling V.numbers_of A.numbers_of) batch)) }
 {
     match numbers_in(alloc, bytes)? {
@@ -77,8 +79,10 @@ fn batch_in<V: Datum, A: Datum>(
     alloc: Global,
     numbers: &[u64],
 ) -> Result<Option<Batch<V, A>>, OutOfMemory>
-    ensures found { IfOk result (λ r. IfSome r (λ batch. IsSpelled (telling V.numbers_of A.numbers_of) batch × (numbers.now ≡ batch_numbers (telling V.numbers_of A.numbers_of) batch))) }
-    ensures absent { IfOk result (λ r. IfNone r ((batch : TheBatch V A) → IsSpelled (telling V.numbers_of A.numbers_of) batch
+    ensures found { IfOk result (λ r. IfSome r (λ batch. IsSpelled (telling V.numbers_of A.numbers_of) batch
+        × (numbers.now ≡ batch_numbers (telling V.numbers_of A.numbers_of) batch))) }
+    ensures absent { IfOk result (λ r. IfNone r ((batch : TheBatch V A)
+        → IsSpelled (telling V.numbers_of A.numbers_of) batch
         → numbers.now ≢ batch_numbers (telling V.numbers_of A.numbers_of) batch)) }
 {
     match head_at(numbers) {
@@ -103,8 +107,10 @@ fn body_in<V: Datum, A: Datum>(
     code: u64,
     numbers: &[u64],
 ) -> Result<Option<Body<V, A>>, OutOfMemory>
-    ensures found { IfOk result (λ r. IfSome r (λ body. TellBody (telling V.numbers_of A.numbers_of) code numbers.now body)) }
-    ensures absent { IfOk result (λ r. IfNone r ((body : TheBody V A) → TellBody (telling V.numbers_of A.numbers_of) code numbers.now body → ⊥)) }
+    ensures found { IfOk result (λ r. IfSome r (λ body.
+        TellBody (telling V.numbers_of A.numbers_of) code numbers.now body)) }
+    ensures absent { IfOk result (λ r. IfNone r ((body : TheBody V A)
+        → TellBody (telling V.numbers_of A.numbers_of) code numbers.now body → ⊥)) }
 {
     match code {
         0 => match items_in(alloc, numbers)? {
@@ -137,8 +143,10 @@ fn body_in<V: Datum, A: Datum>(
 
 // The items that all of the numbers tell, by rising vertices: how many there are, and each.
 fn items_in<I: Item>(alloc: Global, numbers: &[u64]) -> Result<Option<Items<I>>, OutOfMemory>
-    ensures found { IfOk result (λ r. IfSome r (λ items. AreItems I.key I.Fits items × (numbers.now ≡ length items ∷ flat_map I.told items))) }
-    ensures absent { IfOk result (λ r. IfNone r ((items : List I) → AreItems I.key I.Fits items → numbers.now ≢ length items ∷ flat_map I.told items)) }
+    ensures found { IfOk result (λ r. IfSome r (λ items. AreItems I.key I.Fits items
+        × (numbers.now ≡ length items ∷ flat_map I.told items))) }
+    ensures absent { IfOk result (λ r. IfNone r ((items : List I) → AreItems I.key I.Fits items
+        → numbers.now ≢ length items ∷ flat_map I.told items)) }
 {
     match numbers {
         [] => Ok(None),
@@ -151,8 +159,10 @@ fn items_told<I: Item>(
     count: u64,
     numbers: &[u64],
 ) -> Result<Option<Items<I>>, OutOfMemory>
-    ensures found { IfOk result (λ r. IfSome r (λ items. AreItems I.key I.Fits items × (length items ≡ count) × (numbers.now ≡ flat_map I.told items))) }
-    ensures absent { IfOk result (λ r. IfNone r ((items : List I) → AreItems I.key I.Fits items → length items ≡ count → numbers.now ≢ flat_map I.told items)) }
+    ensures found { IfOk result (λ r. IfSome r (λ items. AreItems I.key I.Fits items × (length items ≡ count)
+        × (numbers.now ≡ flat_map I.told items))) }
+    ensures absent { IfOk result (λ r. IfNone r ((items : List I) → AreItems I.key I.Fits items → length items ≡ count
+        → numbers.now ≢ flat_map I.told items)) }
 {
     let mut items = Items::new(alloc);
     let mut rest = numbers;

@@ -25,7 +25,8 @@ pub fn encode<V: Datum, A: Datum>(
     batch: &Batch<V, A>,
     into: &mut Vec<u8>,
 ) -> Result<(), OutOfMemory>
-    ensures ok { OnOk result (into.new.items ≡ into.old.items ++ batch_bytes (telling V.numbers_of A.numbers_of) batch.now) }
+    ensures ok { OnOk result (into.new.items ≡ into.old.items
+        ++ batch_bytes (telling V.numbers_of A.numbers_of) batch.now) }
     ensures err { OnErr result (into.new.items ≡ into.old.items) }
 {
     let bytes = bytes_of(alloc, batch)?;
@@ -68,7 +69,8 @@ fn push_body<V: Datum, A: Datum>(
     numbers: &mut Vec<u64>,
     body: &Body<V, A>,
 ) -> Result<(), OutOfMemory>
-    ensures { OnOk result (numbers.new.items ≡ numbers.old.items ++ body_numbers (telling V.numbers_of A.numbers_of) body.now) }
+    ensures { OnOk result (numbers.new.items ≡ numbers.old.items
+        ++ body_numbers (telling V.numbers_of A.numbers_of) body.now) }
 {
     match body {
         Body::Gather(parts) => push_items(numbers, parts.as_slice()),

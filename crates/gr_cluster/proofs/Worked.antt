@@ -19,7 +19,8 @@ use Rattle.gr_rules.specs.Grants.{records_after}
 use Rattle.gr_rules.proofs.Programs.{shortest, in_degree, infinite}
 use Rattle.gr_cluster.specs.Tables.{Host, Cluster}
 use Rattle.gr_cluster.specs.Load.{Setting, fresh_host, first_rows, first_arcs, load}
-use Rattle.gr_cluster.specs.GraphIn.{graph_in, directory_of}
+use Rattle.gr_cluster.specs.GraphIn.{graph_in}
+use Rattle.gr_cluster.specs.Directory.{directory_of}
 use Rattle.gr_rules.specs.Todo.{Todo}
 use Rattle.gr_cluster.specs.Todo.{todo}
 use Rattle.gr_cluster.specs.Network.{fate_at, received, delivered, dropped}

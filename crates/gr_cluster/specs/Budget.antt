@@ -7,7 +7,7 @@ use Rattle.gr_batch.specs.declared.outcome.Outcome.TheVariants as outcome
 use Rattle.gr_sched.specs.declared.event.Event.{Event}
 use Rattle.gr_view.specs.Modes.{is_rebuild}
 use Rattle.gr_cluster.specs.Tables.{Cluster}
-use Rattle.gr_cluster.specs.GraphIn.{directory_of}
+use Rattle.gr_cluster.specs.Directory.{directory_of}
 use Rattle.gr_cluster.specs.Step.{step}
 use Rattle.gr_cluster.specs.Runs.{Position, next_event, next_position}
 

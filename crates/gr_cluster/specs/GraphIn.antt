@@ -1,13 +1,11 @@
--- The graph and the directory that the committed logs of a cluster say.
-use Rattle.std.specs.Prelude.{ℕ, not, List, [], map, flat_map}
-use Rattle.std.specs.List.{filter}
+-- The graph that the committed logs of a cluster say.
+use Rattle.std.specs.Prelude.{ℕ, List, map, flat_map}
 use Rattle.gr_base.specs.declared.records.Edge.{Edge}
 use Rattle.gr_base.specs.Degrees.{indegree, outdegree}
-use Rattle.gr_base.specs.Rising.{has}
-use Rattle.gr_base.specs.Places.{below}
 use Rattle.gr_log.specs.declared.record.LogRecord.{LogRecord}
-use Rattle.gr_log.specs.Directory.{Entry, directory_in, edges_in, with_items}
+use Rattle.gr_log.specs.Directory.{edges_in}
 use Rattle.gr_cluster.specs.Tables.{Cluster, log}
+use Rattle.gr_cluster.specs.Directory.{unretired, directory_of}
 
 -- a vertex with its degrees
 pub record Degrees : Type 0 where
@@ -24,16 +22,9 @@ abbrev pub graph_of : List Edge → List ℕ → LoggedGraph
 graph_of es vs = record { vertices = map (λ v. record { vertex = v; indeg = indegree es v; outdeg = outdegree es v }) vs; edges = es }
 
 module _ {V A : Type 0} where
-  abbrev pub unretired : Cluster V A → List ℕ
-  unretired c = filter (λ p. not (has c.coordinator.retired p)) (below c.places)
-
   -- the committed records of the places that are not retired
   abbrev pub logged : Cluster V A → List LogRecord
   logged c = flat_map (λ p. (log c p).committed) (unretired c)
-
-  -- a Held record of each vertex there, by rising vertex
-  unfoldable pub directory_of : Cluster V A → List Entry
-  directory_of c = with_items (λ e. e.vertex) (flat_map (λ p. directory_in (log c p).committed) (unretired c)) []
 
   -- their vertices with the degrees, and all edges by number
   unfoldable pub graph_in : Cluster V A → LoggedGraph

@@ -2,7 +2,8 @@
 use Rattle.std.specs.Prelude.{ℕ, ◌+◌, ◌*◌, Bool, not, ◌&&◌, ◌==◌, nat_lt, cond, Option, Some, None, sum_by, count_by, length, if◌then◌else◌}
 use Rattle.gr_base.specs.Rising.{has}
 use Rattle.gr_batch.specs.declared.stage.Stage.{Stage}
-use Rattle.gr_batch.specs.Stages.{place_in, is_stage, is_end}
+use Rattle.gr_batch.specs.Stages.{is_stage, is_end}
+use Rattle.gr_batch.specs.Order.{place_in}
 use Rattle.gr_view.specs.declared.coordinator.Coordinator.{Coordinator}
 use Rattle.gr_view.specs.Modes.{is_open, is_over, is_rebuild}
 use Rattle.gr_view.specs.Decisions.{parties}

@@ -1,5 +1,6 @@
 pub mod Budget
 pub mod Canonical
+pub mod Directory
 pub mod Ending
 pub mod GraphIn
 pub mod Left

@@ -1,12 +1,11 @@
 -- The stages of a mode.
-use Rattle.std.specs.Prelude.{Bool, List, [], ◌∷◌, if◌then◌else◌}
+use Rattle.std.specs.Prelude.{Bool, List, [], ◌∷◌}
 use Rattle.std.specs.List.{list_any}
 use Rattle.gr_batch.specs.declared.stage.Stage.{Stage}
 use Rattle.gr_batch.specs.declared.stage.Stage.TheVariants as stage
 use Rattle.gr_batch.specs.Stages.{is_stage}
 use Rattle.gr_view.specs.declared.coordinator.Mode.{Mode}
 use Rattle.gr_view.specs.declared.coordinator.Mode.TheVariants as mode
-use Rattle.gr_view.specs.Modes.{is_rebuild}
 
 -- the stages of a round, and of a rebuild, in order
 abbrev pub stages_of : Mode → List Stage
@@ -17,7 +16,3 @@ stages_of _ = []
 
 abbrev pub has_stage : List Stage → Stage → Bool
 has_stage ss s = list_any (is_stage s) ss
-
--- the stage that a place begins an epoch with
-abbrev pub first_stage : Mode → Stage
-first_stage m = if is_rebuild m then stage.Ask else stage.Gather

@@ -6,17 +6,23 @@ use Rattle.gr_program.specs.declared.copy.VertexCopy.{VertexCopy}
 use Rattle.gr_program.specs.Program.{Program}
 use Rattle.gr_log.specs.Bytes.{size_of}
 use Rattle.gr_log.specs.Log.{with_records, cut_log}
+use Rattle.gr_batch.specs.declared.stage.Stage.{Stage}
+use Rattle.gr_batch.specs.declared.stage.Stage.TheVariants as stage
 use Rattle.gr_batch.specs.declared.outcome.Outcome.{Outcome}
 use Rattle.gr_batch.specs.declared.outcome.Outcome.TheVariants as outcome
 use Rattle.gr_view.specs.declared.coordinator.Mode.{Mode}
+use Rattle.gr_view.specs.Modes.{is_rebuild}
 use Rattle.gr_view.specs.Decisions.{reported}
 use Rattle.gr_rules.specs.Exchange.{Exchange, unsent, computed, sent_to}
 use Rattle.gr_rules.specs.Todo.{Todo}
 use Rattle.gr_rules.specs.AtPlace.{due_count}
 use Rattle.gr_cluster.specs.Tables.{Host, Cluster, log, with_host, with_log}
-use Rattle.gr_cluster.specs.Stages.{first_stage}
 use Rattle.gr_cluster.specs.Todo.{others, todo}
 use Rattle.gr_cluster.specs.Place.{staged_rows, staged_arcs, batch_to, new_records}
+
+-- the stage that a place begins an epoch with
+abbrev pub first_stage : Mode → Stage
+first_stage m = if is_rebuild m then stage.Ask else stage.Gather
 
 module _ {V A : Type 0} where
   -- the pending layer becomes the stable one

@@ -1,17 +1,17 @@
 -- The next of those who are left, in ring order.
-use Rattle.std.proofs.Common.{◌≡◌, ◌∙◌, ◌<◌, ◌+◌, ℕ, Bool, true, false, not, eqb, ltb, List, [], ◌∷◌, ◌++◌, Some, get_or, refl, ap, sym, arith, inl, inr}
-use Rattle.std.specs.Prelude.{◌&&◌, ◌||◌, nat_le, ◌↔◌, slice_get}
+use Rattle.std.proofs.Common.{◌≡◌, ◌∙◌, ◌<◌, ℕ, Bool, true, false, not, ltb, List, [], ◌∷◌, ◌++◌, Some, get_or, refl, ap, sym, arith, inl, inr}
+use Rattle.std.specs.Prelude.{◌||◌, nat_le, ◌↔◌, slice_get}
 use Rattle.std.specs.List.{All, filter, find}
 use Rattle.std.specs.Option.{option_or}
-use Rattle.std.proofs.lemmas.Bool.{cases_Bool, cases_eq, cases_order, cases_lt, cond-true, cond-false, eq-eqb, ne_eqb, lt-ltb, le-ltb, le-leb, lt-leb}
+use Rattle.std.proofs.lemmas.Bool.{cases_Bool, cases_eq, cases_order, cases_lt, cond-true, cond-false, ne_eqb, lt-ltb, le-ltb, le-leb, lt-leb}
 use Rattle.std.proofs.lemmas.List.Folds.{find-append}
 use Rattle.std.proofs.lemmas.List.Elements.{All-cons, All-nil, All-head, All-tail}
 use Rattle.gr_base.specs.Rising.{RisesBy, has, without}
-use Rattle.gr_base.specs.Places.{first_from, without_place}
+use Rattle.gr_base.specs.Places.{first_from}
 use Rattle.gr_base.proofs.Rising.{rises-tail, rises-head, none-later}
 use Rattle.gr_base.proofs.Members.{find-filter}
 use Rattle.gr_copies.specs.Granter.{granter}
-use Rattle.gr_copies.proofs.Selecting.{filter-same, filter-filter, filter-on, filter-off, filter-all}
+use Rattle.gr_copies.proofs.Selecting.{filter-same, filter-on, filter-off}
 
 find-on : (f : ℕ → Bool) (x : ℕ) (xs : List ℕ) → f x ≡ true → find f (x ∷ xs) ≡ Some x
 find-on f x xs on = cond-true (f x) (Some x) (find f xs) on

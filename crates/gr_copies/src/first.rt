@@ -11,13 +11,14 @@ ghost use Rattle.gr_copies.specs.Ends.{is_end, AreEnds, IsMarked};
 use crate::further::next_places;
 use gr_base::{Directory, Edge, Items, OutOfMemory, PlaceSet};
 use gr_cut::PlaceEdges;
-use gr_edges::{Graph, VertexInfo};
+use gr_edges::{Graph, VertexInfo, position_hints, position_of};
 use std::alloc::Global;
 
 /// Where the copies of each vertex stand at load, rising by vertex: at its home, at the places with an edge of it,
 /// and at the next places in ring order after its home until the copies bear the losses.
 ///
-/// In time linear in the edges, the vertices and the places, with a logarithm in the vertices for each end of an edge.
+/// In time linear in the edges, the vertices and the places. An end of an edge takes a logarithm in the vertices only
+/// if its hint is not right.
 pub fn first_holders(
     alloc: Global,
     graph: &Graph,
@@ -33,12 +34,15 @@ pub fn first_holders(
 {
     let _count = graph.vertex_count();
     let vertices = graph.vertices.as_slice();
+    let edges = graph.edges.as_slice();
+    let hints = position_hints(alloc, vertices)?;
     let mut sets = homes(alloc, vertices, places)?;
     for p in 0..places {
         mark_ends(
             sets.as_mut_slice(),
             vertices,
-            graph.edges.as_slice(),
+            hints.as_slice(),
+            edges,
             cut.at(p),
             p,
         );
@@ -68,8 +72,15 @@ fn home_of(v: u32, places: u8) -> u8
     (v % u32::from(places)) as u8
 }
 
-// Adds a place to the sets of the ends of some edges.
-fn mark_ends(sets: &mut [PlaceSet], vertices: &[VertexInfo], edges: &[Edge], numbers: &[u32], p: u8)
+// Adds a place to the sets of the ends of some edges, by any hints of the vertices.
+fn mark_ends(
+    sets: &mut [PlaceSet],
+    vertices: &[VertexInfo],
+    hints: &[u32],
+    edges: &[Edge],
+    numbers: &[u32],
+    p: u8,
+)
     requires rise { RisesBy id_of vertices.now }
     requires ends { All (HasEnds (ids vertices.now)) edges.now }
     requires numbers { All (λ n. n < length edges.now) numbers.now }
@@ -79,20 +90,20 @@ fn mark_ends(sets: &mut [PlaceSet], vertices: &[VertexInfo], edges: &[Edge], num
 {
     for number in numbers {
         let edge = edges[*number as usize];
-        mark(sets, vertices, edge.src, p);
-        mark(sets, vertices, edge.dst, p);
+        mark(sets, vertices, hints, edge.src, p);
+        mark(sets, vertices, hints, edge.dst, p);
     }
 }
 
-// Adds a place to the set of a vertex.
-fn mark(sets: &mut [PlaceSet], vertices: &[VertexInfo], v: u32, p: u8)
+// Adds a place to the set of a vertex, by any hints.
+fn mark(sets: &mut [PlaceSet], vertices: &[VertexInfo], hints: &[u32], v: u32, p: u8)
     requires rise { RisesBy id_of vertices.now }
     requires stands { has (ids vertices.now) v ≡ true }
     requires place { p < 64 }
     requires count { length sets.old ≡ length vertices.now }
     ensures { IsMarked (ids vertices.now) p (λ w. v == w) sets.old sets.new }
 {
-    let at = vertices.partition_point(|vertex| vertex.id < v);
+    let at = position_of(vertices, hints, v);
     sets[at] = sets[at].with(p);
 }
 
@@ -107,7 +118,8 @@ fn directory(
     requires some { 1 ≤ places }
     requires most { places ≤ 64 }
     requires count { length sets.now ≡ length vertices.now }
-    ensures { (theta : ℕ) → (es : List edge.Edge) → AreEnds places places es (cut_of places theta es) (ids vertices.now) sets.now
+    ensures { (theta : ℕ) → (es : List edge.Edge)
+        → AreEnds places places es (cut_of places theta es) (ids vertices.now) sets.now
         → IfOk result (λ dirs. dirs ≡ first_directory places theta losses es (ids vertices.now)) }
 {
     let mut directory = Items::new(alloc);
@@ -129,7 +141,8 @@ fn directory(
 fn holders_of(needed: PlaceSet, home: u8, places: u8, losses: u8) -> PlaceSet
     requires home { home < 64 }
     requires most { places ≤ 64 }
-    ensures holders { result ≡ filter (λ p. has needed p || has (further (min (losses + 1) places) needed (ring home (below places))) p) (below 64) }
+    ensures holders { result ≡ filter (λ p.
+        has needed p || has (further (min (losses + 1) places) needed (ring home (below places))) p) (below 64) }
     ensures needed { IsPlaces needed }
 {
     let _known = needed.has(0);

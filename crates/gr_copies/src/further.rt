@@ -50,8 +50,10 @@ pub struct Gathered {
 fn gather(before: Gathered, candidates: PlaceSet, from: u8, to: u8) -> Gathered
     requires order { from ≤ to }
     requires most { to ≤ 64 }
-    ensures members { (p : ℕ) → has result.places p ≡ (has before.places p || has (take before.missing (filter (has candidates) (range_with_len from (to - from)))) p) }
-    ensures missing { result.missing ≡ before.missing - length (filter (has candidates) (range_with_len from (to - from))) }
+    ensures members { (p : ℕ) → has result.places p ≡ (has before.places p
+        || has (take before.missing (filter (has candidates) (range_with_len from (to - from)))) p) }
+    ensures missing { result.missing ≡ before.missing
+        - length (filter (has candidates) (range_with_len from (to - from))) }
 {
     let mut places = before.places;
     let mut missing = before.missing;

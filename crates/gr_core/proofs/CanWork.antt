@@ -1,6 +1,7 @@
 -- Whether the next work of a place does something, by whose turn it is.
 use Rattle.std.proofs.Common.{◌≡◌, ℕ, Bool, true, false, refl, sym, ap, ◌∙◌, Option, Some, None}
-use Rattle.gr_program.specs.Program.{Program, ProgramLaws}
+use Rattle.gr_program.specs.Program.{Program}
+use Rattle.gr_program.specs.ProgramLaws.{ProgramLaws}
 use Rattle.gr_view.specs.Modes.{is_over}
 use Rattle.gr_rules.specs.Todo.{Todo, is_act}
 use Rattle.gr_cluster.specs.Tables.{Host, Cluster, host}

@@ -9,7 +9,8 @@ use Rattle.gr_base.specs.declared.records.NumberedEdge.{NumberedEdge}
 use Rattle.gr_base.specs.Rising.{has}
 use Rattle.gr_base.specs.Places.{below}
 use Rattle.gr_program.specs.declared.copy.VertexCopy.{VertexCopy}
-use Rattle.gr_program.specs.Program.{Program, ProgramLaws}
+use Rattle.gr_program.specs.Program.{Program}
+use Rattle.gr_program.specs.ProgramLaws.{ProgramLaws}
 use Rattle.gr_edges.specs.declared.graph.Graph.{Graph}
 use Rattle.gr_edges.specs.declared.graph.VertexInfo.{VertexInfo}
 use Rattle.gr_edges.specs.Vertices.{id_of, ids}

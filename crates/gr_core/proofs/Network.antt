@@ -1,5 +1,5 @@
 -- What a delivery and a drop make of a cluster.
-use Rattle.std.proofs.Common.{◌≡◌, ℕ, ◌≤◌, List, Bool, true, false, cond, ◌==◌, refl, sym, ap, ◌∙◌, arith, Option, Some, None, slice_get, remove, eq-eqb, get_or, set, Result, Ok, Err}
+use Rattle.std.proofs.Common.{◌≡◌, ℕ, ◌≤◌, List, Bool, true, false, cond, ◌==◌, refl, sym, ap, ◌∙◌, subst, arith, Option, Some, None, slice_get, remove, eq-eqb, get_or, set, Result, Ok, Err}
 use Rattle.std.specs.Prelude.{count_by, IfOk, OnErr}
 use Rattle.std.specs.List.{list_any}
 use Rattle.gr_program.specs.Program.{Program}
@@ -22,7 +22,10 @@ use Rattle.gr_agree.specs.Agree.{Agree}
 use Rattle.gr_agree.specs.Network.{standing}
 use Rattle.gr_lists.proofs.Counts.{count_by-remove, some-counted}
 use Rattle.gr_lists.proofs.Tests.{by_test}
+use Rattle.gr_signal.specs.declared.target.Target.{Target}
 use Rattle.gr_core.specs.Steps.{may_drop}
+use Rattle.gr_core.specs.Targets.{TargetsFit, forgotten}
+use Rattle.gr_core.proofs.Standing.{fit-delivered, fit-forgotten}
 
 none-counted : {X : Type 0} (f : X → Bool) (xs : List X) → count_by f xs ≡ 0 → list_any f xs ≡ false
 none-counted f xs zero = by_test (list_any f xs) (λ e. absurd (let some = some-counted f xs e in omega (arith, some, zero))) (λ e. e)
@@ -101,6 +104,20 @@ module _ {V A E : Type 0} (P : Program V A) (c : Cluster V A) (i : ℕ) (r : Res
           → IfOk r (λ o. (record c { hosts = hs; flight = fl }, o) ≡ step P c (event.Deliver i))
       of (Ok o) is = is c refl refl ∙ sym (step-taken P c (event.Deliver i) over)
       of (Err e) is = tt
+
+  -- the targets that are kept fit the hosts after a delivery
+  pub fit-result : (n : ℕ) (ps : List ℕ) (kept : List (Option (List Target)))
+      → IfOk r (λ o. (k : Cluster V A) → k.hosts ≡ c.hosts → k.flight ≡ c.flight → (record k { hosts = hs; flight = fl }, o) ≡ delivered k i (slice_get c.flight i)) → OnErr r (hs ≡ c.hosts)
+      → TargetsFit P n ps c.hosts kept → TargetsFit P n ps hs (forgotten (slice_get c.flight i) kept)
+  fit-result n ps kept ok err fit = of r ok err
+    where
+      left : List (Option (List Target))
+      left = forgotten (slice_get c.flight i) kept
+
+      of : (r : Result (Outcome V A) E) → IfOk r (λ o. (k : Cluster V A) → k.hosts ≡ c.hosts → k.flight ≡ c.flight → (record k { hosts = hs; flight = fl }, o) ≡ delivered k i (slice_get c.flight i))
+          → OnErr r (hs ≡ c.hosts) → TargetsFit P n ps hs left
+      of (Ok o) ok err = subst (λ (x : Cluster V A × Outcome V A). TargetsFit P n ps x.0.hosts left) (sym (ok c refl refl)) (fit-delivered P n ps c i (slice_get c.flight i) kept fit)
+      of (Err e) ok err = subst (λ l. TargetsFit P n ps l left) (sym err) (fit-forgotten P n ps c.hosts kept (slice_get c.flight i) fit)
 
   pub OnErr-kept : OnErr r (hs ≡ c.hosts) → OnErr r (fl ≡ c.flight) → OnErr r (record c { hosts = hs; flight = fl } ≡ c)
   OnErr-kept a b = of r a b

@@ -2,7 +2,8 @@
 use Rattle.std.proofs.Common.{◌≡◌, ℕ, ◌+◌, ◌<◌, ◌≤◌, List, [], ◌∷◌, ◌++◌, true, false, refl, sym, ap, ◌∙◌, subst, arith, Option, Some, None, get_or, set, length, Result, Ok, Err, ltb-false}
 use Rattle.std.specs.Prelude.{IsTrue, IfSome, is_some, unwrap_or, IfOk, OnOk, OnErr}
 use Rattle.gr_base.specs.Places.{without_place}
-use Rattle.gr_program.specs.Program.{Program, ProgramLaws}
+use Rattle.gr_program.specs.Program.{Program}
+use Rattle.gr_program.specs.ProgramLaws.{ProgramLaws}
 use Rattle.gr_log.specs.Bytes.{size_of}
 use Rattle.gr_log.specs.Log.{Log, with_records}
 use Rattle.gr_batch.specs.declared.stage.Stage.{Stage}

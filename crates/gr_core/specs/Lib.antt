@@ -1,9 +1,10 @@
 pub mod Decided
-pub mod Targets
 pub mod Loaded
 pub mod Rebuilds
+pub mod Resting
 pub mod Steps
 pub mod Tables
+pub mod Targets
 pub mod Turns
 pub mod Values
 pub mod Works

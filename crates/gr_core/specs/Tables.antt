@@ -15,7 +15,8 @@ use Rattle.gr_cluster.specs.Ending.{effective_at}
 use Rattle.gr_agree.specs.Truth.{Truth}
 use Rattle.gr_agree.specs.Agree.{Agree}
 use Rattle.gr_view.specs.Decisions.{parties}
-use Rattle.gr_core.specs.declared.targets.KeptTargets.{KeptTargets}
+use Rattle.gr_signal.specs.declared.target.Target.{Target}
+use Rattle.gr_core.specs.Resting.{AreAtRest}
 use Rattle.gr_core.specs.Targets.{TargetsFit}
 
 -- a host by its two layers of copies and edges, its inbox, its counts, how far it is, and whether it has appended to its log
@@ -49,10 +50,11 @@ pub record Agrees {V A : Type 0} (P : Program V A) (c : Cluster V A) : Type 0 wh
 abbrev pub RetiredFit : RebuildView → List Log → Option (List Ends) → Type 0
 RetiredFit w logs retired = IfSome retired (λ edges. edges ≡ retired_edges w logs)
 
--- and the targets that it keeps are those of their place
-pub record Keeps {V A : Type 0} (P : Program V A) (c : Cluster V A) (kept : Option KeptTargets) (edges : Option (List Ends)) : Type 0 where
+-- and the targets that it keeps are those of their places, and the places that it takes for resting rest
+pub record Keeps {V A : Type 0} (P : Program V A) (c : Cluster V A) (kept : List (Option (List Target))) (at_rest : List ℕ) (edges : Option (List Ends)) : Type 0 where
   pub agrees : Agrees P c
   pub targets : TargetsFit P c.coordinator.epoch (parties c.coordinator) c.hosts kept
+  pub resting : AreAtRest c at_rest
   pub retired : RetiredFit (view_of P c) c.logs edges
 
 module _ {V A : Type 0} where

@@ -41,7 +41,8 @@ use std::marker::Model;
 
 /// A cluster of places, each with a machine that may be down and a log that outlives it, and the batches between them.
 ///
-/// It agrees at all times with some committed state of the graph, its copies and their values, whatever places are down.
+/// It agrees at all times with some committed state of the graph, its copies and their values, whatever places are
+/// down.
 #[derive(Drop)]
 pub struct Cluster<P: VertexProgram> {
     pub(crate) alloc: Global,
@@ -54,7 +55,8 @@ pub struct Cluster<P: VertexProgram> {
     pub(crate) losses: u8,
     pub(crate) theta: u32,
     pub(crate) program: P,
-    pub(crate) kept: Option<KeptTargets>,
+    pub(crate) kept: KeptTargets,
+    pub(crate) resting: PlaceSet,
     pub(crate) retired: Option<Items<LoggedEdge>>,
 }
 
@@ -63,9 +65,31 @@ impl<P: VertexProgram> Model for Cluster<P> {
 
     ghost Value = { Tables P P.Value P.Acc };
 
-    ghost view = { λ c. record { program = c.program; cluster = record { hosts = c.hosts.items; logs = c.logs.items; flight = c.flight; serial = c.serial; coordinator = c.coordinator; places = c.places; losses = c.losses; theta = c.theta } } };
+    ghost view = { λ c. record {
+      program = c.program;
+      cluster = record {
+        hosts = c.hosts.items;
+        logs = c.logs.items;
+        flight = c.flight;
+        serial = c.serial;
+        coordinator = c.coordinator;
+        places = c.places;
+        losses = c.losses;
+        theta = c.theta;
+      };
+    } };
 
-    ghost invariant = { λ c. Keeps (P.program_of c.program) (record { hosts = c.hosts.items; logs = c.logs.items; flight = c.flight; serial = c.serial; coordinator = c.coordinator; places = c.places; losses = c.losses; theta = c.theta }) c.kept c.retired };
+    ghost invariant = { λ c. Keeps (P.program_of c.program)
+        (record {
+          hosts = c.hosts.items;
+          logs = c.logs.items;
+          flight = c.flight;
+          serial = c.serial;
+          coordinator = c.coordinator;
+          places = c.places;
+          losses = c.losses;
+          theta = c.theta;
+        }) c.kept c.resting c.retired };
 }
 
 impl<P: VertexProgram> Cluster<P> {
@@ -84,13 +108,19 @@ impl<P: VertexProgram> Cluster<P> {
     ) -> Result<Cluster<P>, OutOfMemory>
         requires edges { length graph.now.edges ≤ 4194304 }
         requires vertices { length graph.now.vertices ≤ 1048576 }
-        ensures cluster { IfOk result (λ c. c ≡ record { program = program; cluster = load (P.program_of program) (setting_of job.now) graph.now.edges (ids graph.now.vertices) }) }
+        ensures cluster { IfOk result (λ c. c
+            ≡ record {
+              program = program;
+              cluster = load (P.program_of program) (setting_of job.now) graph.now.edges
+                  (ids graph.now.vertices);
+            }) }
         ensures undisturbed { IfOk result (λ c. RunsUndisturbed (P.program_of c.program) c.cluster) }
     {
         let theta = job.theta;
         let cut = cut(alloc, graph, job.places, theta)?;
         let directory = first_holders(alloc, graph, &cut, job.places, job.losses)?;
         let (hosts, logs) = first_places(alloc, graph, job, &program, directory.as_slice(), &cut)?;
+        let kept = KeptTargets::none(alloc)?;
         let any_vertex = graph.vertex_count() > 0;
         Ok(Cluster {
             alloc,
@@ -103,7 +133,8 @@ impl<P: VertexProgram> Cluster<P> {
             losses: job.losses,
             theta,
             program,
-            kept: None,
+            kept,
+            resting: PlaceSet::none(),
             retired: None,
         })
     }

@@ -1,4 +1,5 @@
-ghost use Rattle.std.specs.Prelude.{◌≡◌, ◌==◌, ◌+◌, ◌-◌, ◌^◌, ◌<◌, false, Some, IfOk, IsOk, OnOk, OnErr, IsTrue, IsSome, IfSome};
+ghost use Rattle.std.specs.Prelude.{◌≡◌, ◌==◌, ◌+◌, ◌-◌, ◌^◌, ◌<◌, false, Some, IfOk, IsOk, OnOk, OnErr, IsTrue};
+ghost use Rattle.std.specs.Prelude.{IsSome, IfSome};
 ghost use Rattle.std.specs.List.{list_any};
 ghost use Rattle.gr_base.specs.Places.{without_place};
 ghost use Rattle.gr_batch.specs.declared.stage.Stage.TheVariants as stage;
@@ -13,7 +14,7 @@ ghost use Rattle.gr_core.specs.Targets.{AreGiven, targets_of};
 ghost use Rattle.gr_core.specs.Works.{NeedsHold};
 ghost use Rattle.gr_round.specs.Todo.{is_told};
 ghost use Rattle.gr_cluster.specs.Load.{fresh_host};
-ghost use Rattle.gr_cluster.specs.Stages.{first_stage};
+ghost use Rattle.gr_cluster.specs.Work.{first_stage};
 ghost use Rattle.gr_cluster.specs.Network.{fate_at, received};
 ghost use Rattle.gr_cluster.specs.Work.{installed_host, adopted_host, sent_host};
 ghost use Rattle.gr_core.specs.Steps.{next_of, answer_of, acted_host};
@@ -37,7 +38,8 @@ use std::alloc::Global;
 use std::marker::Model;
 
 /// What the machine of a place holds: its copies and edges, the batches that came, the epoch that it has adopted, how
-/// many commits it has installed, how far it is in its round or its rebuild, and whether it has appended to its log there.
+/// many commits it has installed, how far it is in its round or its rebuild, and whether it has appended to its log
+/// there.
 #[derive(Drop)]
 pub struct Host<P: VertexProgram> {
     pub(crate) rows: Rows<P::Value>,
@@ -127,7 +129,8 @@ impl<P: VertexProgram> Host<P> {
         alloc: Global,
         batch: &Batch<P::Value, P::Acc>,
     ) -> Result<Fate, OutOfMemory>
-        requires fresh { list_any (is_of batch.now.sender batch.now.epoch (stage_of_body batch.now.body)) self.old.inbox ≡ false }
+        requires fresh { list_any (is_of batch.now.sender batch.now.epoch (stage_of_body batch.now.body)) self.old.inbox
+            ≡ false }
         ensures fate { IfOk result (λ fate. fate ≡ fate_at batch.now (Some self.old)) }
         ensures ok { OnOk result (Some self.new ≡ received batch.now (Some self.old)) }
         ensures err { OnErr result (self.new ≡ self.old) }
@@ -242,7 +245,8 @@ impl<P: VertexProgram> Host<P> {
         requires computed { IsTrue self.old.computed }
         requires open { is_end self.old.stage ≡ false }
         requires left { IsSome (unsent (without_place parties me) self.old.sent) }
-        ensures { IfSome (unsent (without_place parties me) self.old.sent) (λ q. self.new ≡ sent_host (without_place parties me) q self.old) }
+        ensures { IfSome (unsent (without_place parties me) self.old.sent) (λ q. self.new
+            ≡ sent_host (without_place parties me) q self.old) }
     {
         self.round.note_sent(me, parties);
     }

@@ -9,7 +9,8 @@ ghost use Rattle.gr_copies.specs.Holders.{first_holders, first_directory};
 ghost use Rattle.gr_log.specs.Log.{log_of};
 ghost use Rattle.gr_rules.specs.Grants.{records_after};
 ghost use Rattle.gr_rules.specs.Rows.{record_of};
-ghost use Rattle.gr_cluster.specs.Load.{Setting, first_copy, first_rows, first_host as host_at_load, first_log as log_at_load};
+ghost use Rattle.gr_cluster.specs.Load.{Setting, first_copy, first_rows, first_host as host_at_load};
+ghost use Rattle.gr_cluster.specs.Load.{first_log as log_at_load};
 ghost use Rattle.gr_core.specs.Loaded.{setting_of};
 
 use crate::host::Host;
@@ -32,10 +33,15 @@ pub(crate) fn first_places<P: VertexProgram>(
     directory: &[Directory],
     cut: &PlaceEdges,
 ) -> Result<(Vec<Option<Host<P>>>, Vec<EdgeLog>), OutOfMemory>
-    requires directory { directory.now ≡ first_directory job.now.places job.now.theta job.now.losses graph.now.edges (ids graph.now.vertices) }
+    requires directory { directory.now ≡ first_directory job.now.places job.now.theta job.now.losses graph.now.edges
+        (ids graph.now.vertices) }
     requires cut { cut.now ≡ cut_of job.now.places job.now.theta graph.now.edges }
-    ensures hosts { IfOk result (λ places. places.0.items ≡ map (host_at_load (P.program_of program.now) (setting_of job.now) graph.now.edges (ids graph.now.vertices)) (below job.now.places)) }
-    ensures logs { IfOk result (λ places. places.1.items ≡ map (log_at_load (P.program_of program.now) (setting_of job.now) graph.now.edges (ids graph.now.vertices)) (below job.now.places)) }
+    ensures hosts { IfOk result (λ places. places.0.items
+        ≡ map (host_at_load (P.program_of program.now) (setting_of job.now) graph.now.edges (ids graph.now.vertices))
+        (below job.now.places)) }
+    ensures logs { IfOk result (λ places. places.1.items
+        ≡ map (log_at_load (P.program_of program.now) (setting_of job.now) graph.now.edges (ids graph.now.vertices))
+        (below job.now.places)) }
 {
     let mut hosts = Vec::new(alloc);
     let mut logs = Vec::new(alloc);
@@ -58,10 +64,13 @@ fn first_place<P: VertexProgram>(
     p: u8,
 ) -> Result<(Host<P>, EdgeLog), OutOfMemory>
     requires place { p < job.now.places }
-    requires directory { directory.now ≡ first_directory job.now.places job.now.theta job.now.losses graph.now.edges (ids graph.now.vertices) }
+    requires directory { directory.now ≡ first_directory job.now.places job.now.theta job.now.losses graph.now.edges
+        (ids graph.now.vertices) }
     requires cut { cut.now ≡ cut_of job.now.places job.now.theta graph.now.edges }
-    ensures host { IfOk result (λ place. Some place.0 ≡ host_at_load (P.program_of program.now) (setting_of job.now) graph.now.edges (ids graph.now.vertices) p) }
-    ensures log { IfOk result (λ place. place.1 ≡ log_at_load (P.program_of program.now) (setting_of job.now) graph.now.edges (ids graph.now.vertices) p) }
+    ensures host { IfOk result (λ place. Some place.0
+        ≡ host_at_load (P.program_of program.now) (setting_of job.now) graph.now.edges (ids graph.now.vertices) p) }
+    ensures log { IfOk result (λ place. place.1
+        ≡ log_at_load (P.program_of program.now) (setting_of job.now) graph.now.edges (ids graph.now.vertices) p) }
 {
     let copies = first_copies(alloc, graph, job, program, directory, p)?;
     let edges = first_edges(alloc, graph, job, cut, p)?;
@@ -80,8 +89,10 @@ fn first_copies<P: VertexProgram>(
     p: u8,
 ) -> Result<Rows<P::Value>, OutOfMemory>
     requires place { p < 64 }
-    requires directory { directory.now ≡ first_directory job.now.places job.now.theta job.now.losses graph.now.edges (ids graph.now.vertices) }
-    ensures copies { IfOk result (λ rows. rows.stable ≡ first_rows (P.program_of program.now) (setting_of job.now) graph.now.edges (ids graph.now.vertices) p) }
+    requires directory { directory.now ≡ first_directory job.now.places job.now.theta job.now.losses graph.now.edges
+        (ids graph.now.vertices) }
+    ensures copies { IfOk result (λ rows. rows.stable
+        ≡ first_rows (P.program_of program.now) (setting_of job.now) graph.now.edges (ids graph.now.vertices) p) }
     ensures layers { IfOk result (λ rows. rows.pending ≡ rows.stable) }
 {
     let _count = graph.vertex_count();
@@ -104,7 +115,11 @@ fn copy_at_load<P: VertexProgram>(
     p: u8,
 ) -> VertexCopy<P::Value>
     ensures { (s : Setting) (es : List edge.Edge) (vs : List ℕ) → HasDegrees es vertex
-        → held.now ≡ record { vertex = vertex.id; master = home s.places vertex.id; holders = first_holders s.places s.theta s.losses es vertex.id }
+        → held.now ≡ record {
+          vertex = vertex.id;
+          master = home s.places vertex.id;
+          holders = first_holders s.places s.theta s.losses es vertex.id;
+        }
         → result ≡ first_copy (P.program_of program.now) s es vs p vertex.id }
 {
     VertexCopy {
@@ -124,7 +139,9 @@ fn value_at_load<P: VertexProgram>(
     vertex: VertexInfo,
     is_master: bool,
 ) -> Option<P::Value>
-    ensures { result ≡ (if (P.program_of program.now).forgetful && ((vertex.outdeg == 0) && not is_master) then None else Some ((P.program_of program.now).start vertex.id vertex.indeg vertex.outdeg)) }
+    ensures { result ≡ (if (P.program_of program.now).forgetful &&
+        ((vertex.outdeg == 0) && not is_master) then None else Some
+        ((P.program_of program.now).start vertex.id vertex.indeg vertex.outdeg)) }
 {
     if is_hidden(P::FORGETFUL, vertex.outdeg, is_master) {
         None

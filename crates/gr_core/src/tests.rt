@@ -340,12 +340,14 @@ fn the_types_have_these_fields_and_no_others(rt: HostRuntime) -> Result<(), Fail
         theta,
         program,
         kept,
+        resting,
         retired,
     } = &cluster;
     assert_eq!(rt; (hosts.len(), logs.len(), *places), (2, 2, 2));
     assert_eq!(rt; (flight.len(), *serial, coordinator.epoch), (0, 8, 0));
     assert_eq!(rt; (*losses, *theta, program.source), (1, 100, 0));
-    assert!(rt; kept.is_none());
+    assert!(rt; kept.at(0).is_none());
+    assert_eq!(rt; *resting, PlaceSet::none());
     assert!(rt; retired.is_none());
     let found = match hosts.as_slice() {
         [None, Some(host)] => {

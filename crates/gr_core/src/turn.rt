@@ -4,8 +4,8 @@ ghost use Rattle.gr_core.specs.Turns.{turn_in};
 
 use gr_view::Mode;
 
-/// What a place is to do until the run is over: nothing, to install what is pending, to adopt a new epoch, the work of a
-/// round, or the work of a rebuild.
+/// What a place is to do until the run is over: nothing, to install what is pending, to adopt a new epoch, the work of
+/// a round, or the work of a rebuild.
 #[derive(Clone, Copy, Debug, PartialEq, Eq)]
 pub(crate) enum Turn {
     Rest,

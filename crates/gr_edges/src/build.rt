@@ -4,7 +4,7 @@ ghost use Rattle.gr_base.specs.Rising.{RisesBy, has};
 ghost use Rattle.gr_edges.specs.Vertices.{id_of, ids, vertex_of, with_source, with_target, HasEnds};
 
 use crate::graph::{Graph, VertexInfo};
-use crate::places::{place_hints, place_of};
+use crate::positions::{position_hints, position_of};
 use crate::tally::{room_for, tallied_graph};
 use gr_base::{Edge, Items, OutOfMemory};
 use std::alloc::Global;
@@ -29,7 +29,7 @@ impl Graph {
     }
 }
 
-// The graph of these edges and ids, with the degrees counted at the places of the ids.
+// The graph of these edges and ids, with the degrees counted at the positions of the ids.
 fn hinted_graph(alloc: Global, edges: Items<Edge>, ids: &[u32]) -> Result<Graph, OutOfMemory>
     requires rise { RisesBy (λ n. n) ids.now }
     requires ends { All (HasEnds ids.now) edges }
@@ -41,7 +41,7 @@ fn hinted_graph(alloc: Global, edges: Items<Edge>, ids: &[u32]) -> Result<Graph,
     for id in ids {
         vertices.push(unconnected(*id))?;
     }
-    let hints = place_hints(alloc, vertices.as_slice())?;
+    let hints = position_hints(alloc, vertices.as_slice())?;
     Ok(with_degrees(edges, vertices, hints.as_slice()))
 }
 
@@ -95,9 +95,9 @@ fn count_source(vertices: &mut [VertexInfo], hints: &[u32], id: u32)
     requires room { All (λ v. v.outdeg + 1 < 2 ^ 32) vertices.old }
     ensures { vertices.new ≡ map (with_source id) vertices.old }
 {
-    let place = place_of(vertices, hints, id);
-    let vertex = vertices[place];
-    vertices[place] = VertexInfo {
+    let position = position_of(vertices, hints, id);
+    let vertex = vertices[position];
+    vertices[position] = VertexInfo {
         outdeg: vertex.outdeg + 1,
         id: vertex.id,
         indeg: vertex.indeg,
@@ -111,9 +111,9 @@ fn count_target(vertices: &mut [VertexInfo], hints: &[u32], id: u32)
     requires room { All (λ v. v.indeg + 1 < 2 ^ 32) vertices.old }
     ensures { vertices.new ≡ map (with_target id) vertices.old }
 {
-    let place = place_of(vertices, hints, id);
-    let vertex = vertices[place];
-    vertices[place] = VertexInfo {
+    let position = position_of(vertices, hints, id);
+    let vertex = vertices[position];
+    vertices[position] = VertexInfo {
         indeg: vertex.indeg + 1,
         id: vertex.id,
         outdeg: vertex.outdeg,

@@ -8,7 +8,7 @@ mod graph;
 mod id_set;
 mod line;
 mod number;
-mod places;
+mod positions;
 mod print;
 mod read;
 mod tally;
@@ -16,6 +16,7 @@ mod tree_ids;
 
 pub use fault::GraphFault;
 pub use graph::{Graph, VertexInfo};
+pub use positions::{position_hints, position_of};
 pub use print::print_graph;
 pub use read::read_graph;
 

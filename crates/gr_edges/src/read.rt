@@ -1,6 +1,8 @@
 ghost use Rattle.std.specs.Prelude.{◌≡◌, ◌≤◌, ◌⊎◌, [], ◌++◌, length, Some, None, OnOk, IfOk, IfErr};
 ghost use Rattle.std.specs.Option.{option_or};
-ghost use Rattle.gr_edges.specs.Reading.{lines_of, edges_of, vertices_of, edges_of_line, ids_of_line, joined, both_ways, fault_of_line, fault_of_size, first_fault, ids_of, max_edges, max_vertices, IsWithinLimits};
+ghost use Rattle.gr_edges.specs.Reading.{lines_of, edges_of, vertices_of, edges_of_line, ids_of_line, ids_of};
+ghost use Rattle.gr_edges.specs.Reading.{joined, both_ways, fault_of_line, fault_of_size, first_fault};
+ghost use Rattle.gr_edges.specs.Reading.{max_edges, max_vertices, IsWithinLimits};
 
 use crate::fault::GraphFault;
 use crate::graph::Graph;
@@ -26,7 +28,8 @@ pub fn read_graph(alloc: Global, bytes: &[u8], undirected: bool) -> Result<Graph
     ensures vertices { IfOk result (λ graph. graph.vertices ≡ vertices_of undirected (lines_of bytes.now)) }
     ensures few_edges { IfOk result (λ graph. length graph.edges ≤ max_edges) }
     ensures few_vertices { IfOk result (λ graph. length graph.vertices ≤ max_vertices) }
-    ensures refused { IfErr result (λ fault. (fault ≡ GraphFault.OutOfMemory) ⊎ (first_fault undirected (lines_of bytes.now) ≡ Some fault)) }
+    ensures refused { IfErr result (λ fault.
+        (fault ≡ GraphFault.OutOfMemory) ⊎ (first_fault undirected (lines_of bytes.now) ≡ Some fault)) }
 {
     let mut edges = Items::new(alloc);
     let slots = (bytes.len() / 2).clamp(1, 4 * MAX_VERTICES);
@@ -51,7 +54,8 @@ fn take_lines(
     ensures edges { OnOk result (edges.new ≡ edges_of undirected (lines_of bytes.now)) }
     ensures ids { OnOk result (ids.new ≡ ids_of (lines_of bytes.now)) }
     ensures few { OnOk result (IsWithinLimits edges.new ids.new) }
-    ensures refused { IfErr result (λ fault. (fault ≡ GraphFault.OutOfMemory) ⊎ (first_fault undirected (lines_of bytes.now) ≡ Some fault)) }
+    ensures refused { IfErr result (λ fault.
+        (fault ≡ GraphFault.OutOfMemory) ⊎ (first_fault undirected (lines_of bytes.now) ≡ Some fault)) }
 {
     let mut rest = bytes;
     let mut done: u32 = 0;
@@ -80,8 +84,9 @@ fn take_line(
     ensures sound { OnOk result (fault_of_line number line ≡ None) }
     ensures size { OnOk result (fault_of_size max_edges max_vertices number edges.new ids.new ≡ None) }
     ensures few { OnOk result (IsWithinLimits edges.new ids.new) }
-    ensures err { IfErr result (λ fault. (fault ≡ GraphFault.OutOfMemory) ⊎ (option_or (fault_of_line number line)
-        (fault_of_size max_edges max_vertices number (edges.old ++ edges_of_line undirected line) (joined ids.old (ids_of_line line))) ≡ Some fault)) }
+    ensures err { IfErr result (λ fault.
+        (fault ≡ GraphFault.OutOfMemory) ⊎ (option_or (fault_of_line number line) (fault_of_size max_edges max_vertices
+        number (edges.old ++ edges_of_line undirected line) (joined ids.old (ids_of_line line))) ≡ Some fault)) }
 {
     check_line(number, line)?;
     add_edges(edges, undirected, line)?;

@@ -1,4 +1,6 @@
-ghost use Rattle.std.specs.Prelude.{◌≡◌, ◌==◌, ◌<◌, ◌-◌, ◌^◌, [], ◌∷◌, ◌++◌, length, slice_get, position, remove, option_copied, IfSome, OnOk, OnErr, IsNone, ◌↔◌, ◌≤◌, if◌then◌else◌, nat_lt};
+ghost use Rattle.std.specs.Prelude.{◌≡◌, ◌==◌, ◌<◌, ◌-◌, ◌^◌, [], ◌∷◌, ◌++◌, ◌↔◌, ◌≤◌, if◌then◌else◌};
+ghost use Rattle.std.specs.Prelude.{length, slice_get, position, remove, option_copied};
+ghost use Rattle.std.specs.Prelude.{IfSome, OnOk, OnErr, IsNone, nat_lt};
 
 use gr_base::OutOfMemory;
 use gr_batch::Batch;

@@ -1,4 +1,6 @@
-ghost use Rattle.std.specs.Prelude.{◌≡◌, ◌==◌, ◌<◌, ℕ, Some, not, nat_lt, false, [], ◌∷◌, ◌++◌, IsTrue, option_copied, find, filter, IfSome, OnOk, OnErr};
+ghost use Rattle.std.specs.Prelude.{◌≡◌, ◌==◌, ◌<◌, [], ◌∷◌, ◌++◌};
+ghost use Rattle.std.specs.Prelude.{ℕ, Some, not, nat_lt, false, IsTrue};
+ghost use Rattle.std.specs.Prelude.{option_copied, find, filter, IfSome, OnOk, OnErr};
 ghost use Rattle.std.specs.List.{list_any};
 ghost use Rattle.gr_base.specs.Rising.{has};
 ghost use Rattle.gr_batch.specs.Bodies.{is_of, stage_of_body};

@@ -15,7 +15,8 @@ use std::alloc::Global;
 /// size, with a logarithm of the vertices.
 pub fn generate(alloc: Global, seed: u32, size: u32) -> Result<Graph, OutOfMemory>
     ensures edges { IfOk result (λ graph. graph.edges ≡ edges_of seed size) }
-    ensures vertices { IfOk result (λ graph. graph.vertices ≡ map (vertex_of (edges_of seed size)) (vertices_below size)) }
+    ensures vertices { IfOk result (λ graph. graph.vertices
+        ≡ map (vertex_of (edges_of seed size)) (vertices_below size)) }
 {
     let edges = drawn_edges(alloc, seed, size)?;
     let ids = numbers_below(alloc, vertex_count(size))?;

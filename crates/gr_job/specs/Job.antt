@@ -5,7 +5,6 @@ use Rattle.toml.specs.Data.{Data, Members, get_member}
 use Rattle.toml.specs.Parse.{parse_document}
 use Rattle.gr_job.specs.declared.fault.JobFault.{JobFault}
 use Rattle.gr_job.specs.declared.fault.JobFault.TheVariants.{NotToml, UnknownKey, Missing}
-use Rattle.gr_job.specs.declared.job.Job.{Job}
 use Rattle.gr_job.specs.declared.job.ProgramChoice.{ProgramChoice}
 use Rattle.gr_job.specs.Names.{needs_source, needs_k, needs_seeds, choice_of}
 use Rattle.gr_job.specs.Keys.{unknown_key}
@@ -20,18 +19,6 @@ pub record JobValues : Type 0 where
   pub rounds : ℕ
   pub undirected : Bool
   pub program : ProgramChoice
-
--- what a `Job` says
-abbrev pub values_of : Job → JobValues
-values_of job = record {
-  places = job.places;
-  spares = job.spares;
-  losses = job.losses;
-  theta = job.theta;
-  rounds = job.rounds;
-  undirected = job.undirected;
-  program = job.program;
-}
 
 -- the rest is read once a step has given its value; the first fault is the fault of all
 infixl 10 ◌>>=◌

@@ -1,6 +1,7 @@
 pub mod Agrees
-pub mod Seeds
-pub mod Names
-pub mod Kinds
-pub mod Keys
 pub mod Job
+pub mod Keys
+pub mod Kinds
+pub mod Names
+pub mod Seeds
+pub mod Values

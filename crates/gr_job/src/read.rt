@@ -1,5 +1,6 @@
 ghost use Rattle.std.specs.Prelude.{◌≡◌, ◌≢◌, IfOk, IfErr};
 ghost use Rattle.gr_job.specs.Job as spec;
+ghost use Rattle.gr_job.specs.Values.{values_of};
 ghost use Rattle.toml.specs.View.{table_view};
 
 use crate::document::Document;
@@ -31,7 +32,7 @@ use std::alloc::Global;
 ///
 /// `OutOfMemory` may come in place of any answer. What follows the crate `toml` is linear in the document.
 pub fn read_job(alloc: Global, bytes: &[u8]) -> Result<Job, JobFault>
-    ensures ok { IfOk result (λ job. spec.job_of bytes.now ≡ Ok (spec.values_of job)) }
+    ensures ok { IfOk result (λ job. spec.job_of bytes.now ≡ Ok (values_of job)) }
     ensures refused { IfErr result (λ fault. fault ≢ JobFault.OutOfMemory
         → spec.job_of bytes.now ≡ Err fault) }
 {
@@ -42,7 +43,7 @@ pub fn read_job(alloc: Global, bytes: &[u8]) -> Result<Job, JobFault>
 #[tactic(auto, unfolding(crate::specs::Job::job_of_table))]
 fn read_document(alloc: Global, document: &Document) -> Result<Job, JobFault>
     ensures ok { IfOk result (λ job.
-        spec.job_of_table (table_view document.now.table) ≡ Ok (spec.values_of job)) }
+        spec.job_of_table (table_view document.now.table) ≡ Ok (values_of job)) }
     ensures refused { IfErr result (λ fault. fault ≢ JobFault.OutOfMemory
         → spec.job_of_table (table_view document.now.table) ≡ Err fault) }
 {

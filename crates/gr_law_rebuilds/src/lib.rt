@@ -1,9 +1,10 @@
-//! The laws of crashes and rebuilds: a crash, a new epoch and the work of a rebuild keep the invariant, and the commit of a
-//! rebuild leads to the same values under new masters and holders.
+//! The laws of crashes and rebuilds: a crash, a new epoch and the work of a rebuild keep the invariant, and the commit
+//! of a rebuild leads to the same values under new masters and holders.
 #![tactic(auto)]
 
 ghost use Rattle.gr_agree.specs.Laws.{KeepsAfterLoss, KeepsInANewEpoch, CommitsARebuild};
-ghost use Rattle.gr_law_rebuilds.specs.Epoch.{DiscardKeeps, DiscardOfRecoveryKeeps, FailureKeeps, RecoveryKeeps, RepairKeeps, UnopenedKeeps};
+ghost use Rattle.gr_law_rebuilds.specs.Epoch.{DiscardKeeps, DiscardOfRecoveryKeeps, FailureKeeps};
+ghost use Rattle.gr_law_rebuilds.specs.Epoch.{RecoveryKeeps, RepairKeeps, UnopenedKeeps};
 ghost use Rattle.gr_law_rebuilds.specs.Rebuild.{WorkKeepsInARebuild};
 ghost use Rattle.gr_law_rebuilds.specs.Restore.{RebuildKeepsTheGraph};
 
@@ -19,8 +20,8 @@ pub fn a_repair_keeps<V, A>()
 {}
 
 /// After a barrier that finds crashed places those of the live places are live that are up. Nothing that is committed
-/// has changed there, nor in any log, and the cluster agrees with the same committed state: the crashed places are dead,
-/// and the hosts of reborn places are back among the spares.
+/// has changed there, nor in any log, and the cluster agrees with the same committed state: the crashed places are
+/// dead, and the hosts of reborn places are back among the spares.
 pub fn a_failure_keeps<V, A>()
     ensures { FailureKeeps V A }
 {}
@@ -38,8 +39,8 @@ pub fn a_discard_of_a_recovery_keeps<V, A>()
 {}
 
 /// A recovery that opens leaves the live places as they are, and changes nothing that is committed there, nor in any
-/// log. The cluster agrees with the same committed state: each reborn place begins the epoch with what its committed log
-/// says, without values, and some holder of each vertex is not dead.
+/// log. The cluster agrees with the same committed state: each reborn place begins the epoch with what its committed
+/// log says, without values, and some holder of each vertex is not dead.
 pub fn a_recovery_keeps<V, A>()
     ensures { RecoveryKeeps V A }
 {}
@@ -57,15 +58,15 @@ pub fn what_opens_nothing_keeps<V, A>()
     ensures { UnopenedKeeps V A }
 {}
 
-/// After the commit of a rebuild the cluster agrees with the same graph, values and active vertices, with the new masters
-/// and holders: each party has what the new committed state gives its place, in its rows and edges and in its log. A
-/// vertex without readers whose master died is due, since its value is owed.
+/// After the commit of a rebuild the cluster agrees with the same graph, values and active vertices, with the new
+/// masters and holders: each party has what the new committed state gives its place, in its rows and edges and in its
+/// log. A vertex without readers whose master died is due, since its value is owed.
 pub fn a_rebuild_commits<V, A>()
     ensures { CommitsARebuild V A }
 {}
 
-/// The commit of a rebuild leaves the vertices with their degrees, and the edges, that the committed logs say: what is on
-/// disk is the same graph, at the places that are not retired then.
+/// The commit of a rebuild leaves the vertices with their degrees, and the edges, that the committed logs say: what is
+/// on disk is the same graph, at the places that are not retired then.
 pub fn a_rebuild_keeps_the_graph<V, A>()
     ensures { RebuildKeepsTheGraph V A }
 {}

@@ -1,6 +1,7 @@
 -- What a work keeps where no rebuild is open: a case of the law of events inside an epoch.
 use Rattle.std.specs.Prelude.{ℕ, ◌≡◌, false}
-use Rattle.gr_program.specs.Program.{Program, ProgramLaws}
+use Rattle.gr_program.specs.Program.{Program}
+use Rattle.gr_program.specs.ProgramLaws.{ProgramLaws}
 use Rattle.gr_sched.specs.declared.event.Event.TheVariants as event
 use Rattle.gr_view.specs.Modes.{is_rebuild}
 use Rattle.gr_cluster.specs.Tables.{Cluster}

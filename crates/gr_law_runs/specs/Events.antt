@@ -1,7 +1,8 @@
 -- What every event keeps, but for what brings a rebuild of copies on that is open.
 use Rattle.std.specs.Prelude.{ℕ, ◌≡◌, Bool, true, false, IsTrue, List}
 use Rattle.gr_base.specs.declared.records.Edge.{Edge}
-use Rattle.gr_program.specs.Program.{Program, ProgramLaws}
+use Rattle.gr_program.specs.Program.{Program}
+use Rattle.gr_program.specs.ProgramLaws.{ProgramLaws}
 use Rattle.gr_sched.specs.declared.event.Event.{Event}
 use Rattle.gr_sched.specs.declared.event.Event.TheVariants as event
 use Rattle.gr_view.specs.Modes.{is_rebuild}

@@ -1,6 +1,7 @@
 -- What no event raises inside an epoch, and which outcomes open a new one.
 use Rattle.std.specs.Prelude.{◌+◌, ◌≡◌, ◌≤◌, cond}
-use Rattle.gr_program.specs.Program.{Program, ProgramLaws}
+use Rattle.gr_program.specs.Program.{Program}
+use Rattle.gr_program.specs.ProgramLaws.{ProgramLaws}
 use Rattle.gr_sched.specs.declared.event.Event.{Event}
 use Rattle.gr_cluster.specs.Tables.{Cluster}
 use Rattle.gr_cluster.specs.Step.{step}

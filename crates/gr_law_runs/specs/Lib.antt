@@ -1,3 +1,4 @@
+pub mod CrashLines
 pub mod Crashes
 pub mod Ends
 pub mod Events

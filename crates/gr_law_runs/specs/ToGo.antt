@@ -1,6 +1,7 @@
 -- The measure `to_go`: each canonical event lowers it, no other event raises it by much, and it is bounded.
 use Rattle.std.specs.Prelude.{◌+◌, ◌-◌, ◌*◌, ◌≡◌, ◌<◌, ◌≤◌, max, IsTrue, Some, length}
-use Rattle.gr_program.specs.Program.{Program, ProgramLaws}
+use Rattle.gr_program.specs.Program.{Program}
+use Rattle.gr_program.specs.ProgramLaws.{ProgramLaws}
 use Rattle.gr_sched.specs.declared.event.Event.{Event}
 use Rattle.gr_sched.specs.declared.event.Line.TheVariants as line
 use Rattle.gr_sched.specs.Reading.{places_of, are_below}

@@ -1,7 +1,8 @@
 //! The laws of whole runs: what every event keeps, how runs end, and how long they are.
 #![tactic(auto)]
 
-ghost use Rattle.gr_agree.specs.Bounds.{LeavesLess, LeftIsBounded, StepsByOne, CopiesNoHiddenValue, EveryRunEnds, FinishIsShort, StretchIsShort};
+ghost use Rattle.gr_agree.specs.Bounds.{LeavesLess, LeftIsBounded, StepsByOne, CopiesNoHiddenValue};
+ghost use Rattle.gr_agree.specs.Bounds.{EveryRunEnds, FinishIsShort, StretchIsShort};
 ghost use Rattle.gr_agree.specs.Headline.{Headline};
 ghost use Rattle.gr_agree.specs.Laws.{KeepsInsideAnEpoch, HoldsAfterEveryEvent};
 ghost use Rattle.gr_law_runs.specs.Crashes.{FewCrashesAreBorne};
@@ -86,19 +87,20 @@ pub fn every_run_agrees<V, A>()
     ensures { EveryRunAgrees V A }
 {}
 
-/// Every whole run from load of a lawful program on an accepted graph, job and schedule ends as it must, whatever places
-/// crash and however its events interleave. If it is done, it prints exactly the result of the synchronous rounds of the
-/// graph that is not cut. If it has lost vertices, it names exactly the vertices of the graph all of whose holders are
-/// dead, and there is one: no live place holds it, and each other vertex has a holder that is not dead. Else it says
-/// that the schedule ended early, and after how many rounds. A run whose crashes since the last restored state are at
-/// most as many as the copies bear loses nothing, and one whose last line is `finish` never ends early.
+/// Every whole run from load of a lawful program on an accepted graph, job and schedule ends as it must, whatever
+/// places crash and however its events interleave. If it is done, it prints exactly the result of the synchronous
+/// rounds of the graph that is not cut. If it has lost vertices, it names exactly the vertices of the graph all of
+/// whose holders are dead, and there is one: no live place holds it, and each other vertex has a holder that is not
+/// dead. Else it says that the schedule ended early, and after how many rounds. A run whose crashes since the last
+/// restored state are at most as many as the copies bear loses nothing, and one whose last line is `finish` never ends
+/// early.
 pub fn every_run_ends_as_it_must<V, A>()
     ensures { Headline V A }
 {}
 
-/// Along every run from load under a forgetful program no batch tells a value of a vertex without readers, whether it is
-/// delivered, in flight or in an inbox, and of whichever epoch it is: a round sends no new value of one, and a rebuild
-/// grants it without its value.
+/// Along every run from load under a forgetful program no batch tells a value of a vertex without readers, whether it
+/// is delivered, in flight or in an inbox, and of whichever epoch it is: a round sends no new value of one, and a
+/// rebuild grants it without its value.
 pub fn no_hidden_value_is_copied<V, A>()
     ensures { CopiesNoHiddenValue V A }
 {}
@@ -137,8 +139,8 @@ pub fn to_go_is_bounded<V, A>()
     ensures { ToGoIsBounded V A }
 {}
 
-/// A run from load is within its budget of losses if the crash lines of its schedule are no more than the losses that the
-/// job bears, and fewer than the places.
+/// A run from load is within its budget of losses if the crash lines of its schedule are no more than the losses that
+/// the job bears, and fewer than the places.
 pub fn few_crashes_are_borne<V, A>()
     ensures { FewCrashesAreBorne V A }
 {}

@@ -1,10 +1,11 @@
 -- What the invariant gives for the work of a place in a round.
 use Rattle.std.specs.Prelude.{ℕ, IsTrue, ◌≡◌, Some, map}
-use Rattle.gr_program.specs.Program.{Program, ProgramLaws}
+use Rattle.gr_program.specs.Program.{Program}
+use Rattle.gr_program.specs.ProgramLaws.{ProgramLaws}
 use Rattle.gr_rows.specs.Layers.{vertex_of}
 use Rattle.gr_view.specs.declared.coordinator.Coordinator.{Coordinator}
 use Rattle.gr_view.specs.declared.coordinator.Mode.TheVariants as mode
-use Rattle.gr_rules.specs.Todo.{todo_in_round}
+use Rattle.gr_round.specs.Todo.{todo_in_round}
 use Rattle.gr_low.specs.Sources.{SourcesReady}
 use Rattle.gr_batch.specs.declared.stage.Stage.TheVariants as stage
 use Rattle.gr_rules.specs.Inbox.{bodies}

@@ -11,8 +11,8 @@ pub fn a_place_may_act<V, A>()
 {}
 
 /// Where a recovery or a repair is open, a place that is up, has installed every commit and has adopted the epoch has
-/// what the work of a place in a rebuild needs of the logs, of its copies, edges and inbox, and of the coordinator; what
-/// it does next in the cluster follows from its line and its inbox.
+/// what the work of a place in a rebuild needs of the logs, of its copies, edges and inbox, and of the coordinator;
+/// what it does next in the cluster follows from its line and its inbox.
 pub fn a_place_may_rebuild<V, A>()
     ensures { APlaceMayRebuild V A }
 {}

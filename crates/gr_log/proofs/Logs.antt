@@ -7,7 +7,8 @@ use Rattle.std.proofs.lemmas.List.{take-take, take-append-le, drop-append-le, dr
 use Rattle.std.proofs.lemmas.List.Elements.{All-append, All-take, All-drop}
 use Rattle.gr_log.specs.declared.record.LogRecord.{LogRecord}
 use Rattle.gr_log.specs.Bytes.{record_bytes, records_bytes, size_of}
-use Rattle.gr_log.specs.Log.{Log, empty_log, tail_bytes, log_bytes, committed_size, tail_size, IsAppended, committed_log, cut_log, whole_in, torn_log}
+use Rattle.gr_log.specs.Log.{Log, empty_log, tail_bytes, tail_size, committed_log, cut_log, whole_in, torn_log}
+use Rattle.gr_log.specs.Appending.{log_bytes, committed_size, IsAppended}
 use Rattle.gr_log.specs.Reading.{first_record, read, log_in, IsLog}
 use Rattle.gr_log.proofs.Reading.{size, known, first-fits, first-take, first-part, none-part, read-nil, read-none, read-some, read-append}
 use Rattle.gr_log.proofs.Written.{Byte, first-written}

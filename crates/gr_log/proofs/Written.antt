@@ -8,7 +8,8 @@ use Rattle.std.proofs.Math.Seq.{drop-cons}
 use Rattle.std.proofs.lemmas.Nat.{le_bytes_4, le_bytes_8, from_le_bytes-to_le_bytes_4, from_le_bytes-to_le_bytes_8}
 use Rattle.std.proofs.lemmas.List.{length-take-le, length-drop, drop-drop}
 use Rattle.std.proofs.lemmas.List.Elements.{All-cons, All-append, All-take, All-drop, All-tail}
-use Rattle.gr_base.specs.Places.{members_from, is_bit, word_of}
+use Rattle.gr_base.specs.Places.{word_of}
+use Rattle.gr_base.specs.PlaceBits.{members_from, is_bit}
 use Rattle.gr_base.specs.Words.{word_of-members}
 use Rattle.gr_log.specs.declared.record.LogRecord.{LogRecord}
 use Rattle.gr_log.specs.declared.record.LogRecord.TheVariants as entry

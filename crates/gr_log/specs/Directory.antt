@@ -1,5 +1,5 @@
 -- What the committed records of a log say: the last entry of each vertex, and the edges.
-use Rattle.std.specs.Prelude.{ℕ, ◌≡◌, ◌==◌, List, [], Option, Some, None, length}
+use Rattle.std.specs.Prelude.{ℕ, ◌==◌, List, [], Option, Some, None}
 use Rattle.std.specs.List.{filter_map, find, fold}
 use Rattle.gr_base.specs.declared.records.NumberedEdge.{NumberedEdge}
 use Rattle.gr_base.specs.Rising.{with_item}
@@ -49,7 +49,3 @@ kept_edges rs = filter_map edge_of rs
 
 unfoldable pub edges_in : List LogRecord → List NumberedEdge
 edges_in rs = with_items (λ a. a.number) (kept_edges rs) []
-
--- no two records keep one edge
-abbrev pub KeepsEachOnce : List LogRecord → Type 0
-KeepsEachOnce rs = length (edges_in rs) ≡ length (kept_edges rs)

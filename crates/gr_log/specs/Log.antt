@@ -1,5 +1,5 @@
 -- A log, and what appending, committing, cutting and a crash make of it.
-use Rattle.std.specs.Prelude.{ℕ, ◌≡◌, ◌-◌, nat_le, List, [], ◌∷◌, ◌++◌, length, take, drop, if◌then◌else◌}
+use Rattle.std.specs.Prelude.{ℕ, ◌-◌, nat_le, List, [], ◌∷◌, ◌++◌, length, take, drop, if◌then◌else◌}
 use Rattle.gr_log.specs.declared.record.LogRecord.{LogRecord}
 use Rattle.gr_log.specs.Bytes.{record_bytes, records_bytes, size_of}
 
@@ -20,14 +20,6 @@ log_of rs = record { committed = rs; appended = []; torn = [] }
 abbrev pub tail_bytes : Log → List ℕ
 tail_bytes l = records_bytes l.appended ++ l.torn
 
--- all bytes of a log
-abbrev pub log_bytes : Log → List ℕ
-log_bytes l = records_bytes l.committed ++ tail_bytes l
-
--- the number of committed bytes
-abbrev pub committed_size : Log → ℕ
-committed_size l = size_of l.committed
-
 -- the number of bytes past them
 abbrev pub tail_size : Log → ℕ
 tail_size l = length (tail_bytes l)
@@ -35,13 +27,6 @@ tail_size l = length (tail_bytes l)
 -- the log with further records
 abbrev pub with_records : List LogRecord → Log → Log
 with_records rs l = record l { appended = l.appended ++ rs }
-
--- the log with one more record at its end: the committed records stay, and its bytes follow those of the tail;
--- where nothing was torn, it is one more whole record
-pub record IsAppended (r : LogRecord) (before after : Log) : Type 0 where
-  pub committed : after.committed ≡ before.committed
-  pub bytes : tail_bytes after ≡ tail_bytes before ++ record_bytes r
-  pub whole : before.torn ≡ [] → after ≡ with_records (r ∷ []) before
 
 -- the log once all whole records are committed
 abbrev pub committed_log : Log → Log

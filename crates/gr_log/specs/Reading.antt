@@ -2,7 +2,7 @@
 use Rattle.std.specs.Prelude.{ℕ, zero, suc, ◌-◌, ◌≡◌, ◌<◌, ◌≤◌, ◌==◌, nat_le, if◌then◌else◌, List, [], ◌∷◌, Option, Some, None, length, take, drop, slice_index}
 use Rattle.std.specs.List.{All}
 use Rattle.std.specs.Int.{w32, w64, from_le_bytes}
-use Rattle.gr_base.specs.Places.{members_from, is_bit}
+use Rattle.gr_base.specs.PlaceBits.{members_from, is_bit}
 use Rattle.gr_log.specs.declared.record.LogRecord.{LogRecord}
 use Rattle.gr_log.specs.declared.record.LogRecord.TheVariants as entry
 use Rattle.gr_log.specs.Bytes.{record_bytes}

@@ -1,7 +1,8 @@
 ghost use Rattle.std.specs.Prelude.{◌≡◌, ◌+◌, ◌≤◌, ◌<◌, ◌^◌, ◌++◌, ◌∷◌, Some, length, take, drop, OnOk, OnErr};
 ghost use Rattle.std.specs.Int.{from_le_bytes, w32, w64};
 ghost use Rattle.std.specs.List.{All};
-ghost use Rattle.gr_base.specs.Places.{members_from, is_bit, word_of};
+ghost use Rattle.gr_base.specs.Places.{word_of};
+ghost use Rattle.gr_base.specs.PlaceBits.{members_from, is_bit};
 ghost use Rattle.gr_base.specs.declared.records.NumberedEdge.{NumberedEdge as TheEdge};
 ghost use Rattle.gr_log.specs.Bytes.{record_bytes};
 ghost use Rattle.gr_log.specs.Reading.{held_in, kept_in, first_record};
@@ -158,8 +159,12 @@ fn held_bytes(vertex: u32, indeg: u32, outdeg: u32, master: u8, holders: PlaceSe
 }
 
 fn kept_bytes(number: u32, src: u32, dst: u32, weight: u32) -> [u8; 17]
-    ensures written { result ≡ record_bytes (entry.Kept (record { number = number; edge = record { src = src; dst = dst; weight = weight } })) }
-    ensures read_again { first_record result ≡ Some (entry.Kept (record { number = number; edge = record { src = src; dst = dst; weight = weight } })) }
+    ensures written { result ≡ record_bytes (entry.Kept (record {
+      number = number;
+      edge = record { src = src; dst = dst; weight = weight };
+    })) }
+    ensures read_again { first_record result
+        ≡ Some (entry.Kept (record { number = number; edge = record { src = src; dst = dst; weight = weight } })) }
     ensures bytes { All (λ b. b < 256) result }
 {
     let n = number.to_le_bytes();

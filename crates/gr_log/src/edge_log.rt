@@ -1,5 +1,6 @@
 ghost use Rattle.std.specs.Prelude.{◌≡◌, ◌-◌, [], length, min, OnOk, OnErr, IfOk};
-ghost use Rattle.gr_log.specs.Log.{empty_log, committed_size, log_bytes, tail_size, IsAppended, committed_log, torn_log, cut_log};
+ghost use Rattle.gr_log.specs.Log.{empty_log, tail_size, committed_log, torn_log, cut_log};
+ghost use Rattle.gr_log.specs.Appending.{committed_size, log_bytes, IsAppended};
 
 use crate::LogRecord;
 use crate::bytes::{first_record, push_record};
@@ -93,7 +94,8 @@ impl EdgeLog {
         self.bytes.truncate(self.committed);
     }
 
-    /// The committed records, in order, in time linear in their number. The last `Held` record of a vertex stands for it.
+    /// The committed records, in order, in time linear in their number. The last `Held` record of a vertex stands for
+    /// it.
     pub fn records(&self) -> Result<Items<LogRecord>, OutOfMemory>
         ensures { IfOk result (λ records. records ≡ self.now.committed) }
     {

@@ -11,8 +11,8 @@ use gr_rows::Rows;
 /// The sum of what the stable edges into a vertex bring to it, joined from the unit in rising number: an edge that
 /// stands twice in the graph brings its part twice, and a vertex with no edge here has the unit. It takes no memory.
 ///
-/// It takes a search among the place's edges, and for each edge into the vertex one among its copies, mostly in constant
-/// time each.
+/// It takes a search among the place's edges, and for each edge into the vertex one among its copies, mostly in
+/// constant time each.
 pub fn gather_low<P: VertexProgram>(
     program: &P,
     rows: &Rows<P::Value>,

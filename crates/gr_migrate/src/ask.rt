@@ -16,8 +16,8 @@ use gr_rows::Rows;
 use std::alloc::Global;
 use std::collections::BTreeSet;
 
-/// The vertices that the place `me` with these rows asks the place `to` for: of the edges that it takes over from places
-/// that retire the ends that it has no copy of and that `to` grants, rising.
+/// The vertices that the place `me` with these rows asks the place `to` for: of the edges that it takes over from
+/// places that retire the ends that it has no copy of and that `to` grants, rising.
 ///
 /// It takes time linear in the edges of places that retire, and searches for each edge that is taken.
 ///
@@ -34,7 +34,8 @@ pub fn asks<V: Datum>(
 ) -> Result<Items<u32>, OutOfMemory>
     requires masters { All KnowsMasters retired.now }
     ensures asked { IfOk result (λ body. body ≡ asked_among view.now me rows.now.stable to retired.now) }
-    ensures body { IfOk result (λ body. (logs : List Log) → retired.now ≡ retired_edges view.now logs → body ≡ ask_body view.now logs me rows.now.stable to) }
+    ensures body { IfOk result (λ body. (logs : List Log) → retired.now ≡ retired_edges view.now logs
+        → body ≡ ask_body view.now logs me rows.now.stable to) }
     ensures rise { IfOk result (λ body. RisesBy (λ v. v) body) }
 {
     let mut asked = BTreeSet::new(alloc);

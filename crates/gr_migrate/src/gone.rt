@@ -40,7 +40,8 @@ fn add_lost(
     entries: &[LogEntry],
     dead: PlaceSet,
 ) -> Result<(), OutOfMemory>
-    ensures { OnOk result (vertices.new.keys ≡ fold with_place vertices.old.keys (map (λ e. e.vertex) (filter (λ e. includes dead e.holders) entries.now))) }
+    ensures { OnOk result (vertices.new.keys ≡ fold with_place vertices.old.keys
+        (map (λ e. e.vertex) (filter (λ e. includes dead e.holders) entries.now))) }
 {
     for entry in entries {
         if all_in(dead, entry.holders) {

@@ -44,7 +44,8 @@ pub fn grants<V: Datum>(
     requires masters { All (λ c. is_in c.holders c.master ≡ true) rows.now.stable }
     requires askers { All (λ a. a.asker < 64) asked.now }
     ensures copies { IfOk result (λ body. body ≡ grant_body view.now 0 me (askers asked.now) rows.now.stable to) }
-    ensures any_askers { IfOk result (λ body. (asked_by : ℕ → List ℕ) → AreAskers asked.now asked_by → body ≡ grant_body view.now 0 me asked_by rows.now.stable to) }
+    ensures any_askers { IfOk result (λ body. (asked_by : ℕ → List ℕ) → AreAskers asked.now asked_by
+        → body ≡ grant_body view.now 0 me asked_by rows.now.stable to) }
     ensures rise { IfOk result (λ body. RisesBy (λ c. c.vertex) body) }
 {
     let sets = askers_by_vertex(alloc, asked)?;

@@ -28,7 +28,8 @@ pub fn taken_edges(
 ) -> Result<Items<NumberedEdge>, OutOfMemory>
     requires masters { All KnowsMasters retired.now }
     ensures edges { IfOk result (λ edges. edges ≡ taken_among view.now me retired.now) }
-    ensures of_logs { IfOk result (λ edges. (logs : List Log) → retired.now ≡ retired_edges view.now logs → edges ≡ edges_taken view.now logs me) }
+    ensures of_logs { IfOk result (λ edges. (logs : List Log) → retired.now ≡ retired_edges view.now logs
+        → edges ≡ edges_taken view.now logs me) }
     ensures rise { IfOk result (λ edges. RisesBy (λ a. a.number) edges) }
 {
     let mut taken = Items::new(alloc);

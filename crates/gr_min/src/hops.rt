@@ -1,5 +1,6 @@
 ghost use Rattle.std.specs.Prelude.{◌≡◌};
-ghost use Rattle.gr_min.specs.HopSum.{is_better as better_than, better as better_of, reached_by as offer_of, hop as hop_of};
+ghost use Rattle.gr_min.specs.HopSum.{is_better as better_than, better as better_of};
+ghost use Rattle.gr_min.specs.HopSum.{reached_by as offer_of, hop as hop_of};
 
 use crate::{Hop, HopSum};
 use gr_program::VertexProgram;

@@ -118,8 +118,8 @@ impl SearchHints {
     }
 }
 
-/// Whether the numbers before a position are below this one, and those from there on are not. It looks at the two beside
-/// the position, since the numbers rise.
+/// Whether the numbers before a position are below this one, and those from there on are not. It looks at the two
+/// beside the position, since the numbers rise.
 fn divides(numbers: &[u32], at: usize, v: u32) -> bool
     requires rises { RisesBy (λ n. n) numbers.now }
     requires within { at ≤ length numbers.now }

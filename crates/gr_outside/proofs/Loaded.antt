@@ -4,7 +4,8 @@ use Rattle.std.specs.Prelude.{Result, Ok, Err, OnOk, OnErr, IsErrOf, if◌then�
 use Rattle.gr_outside.specs.declared.faults.LoadFault.{LoadFault}
 use Rattle.gr_outside.specs.declared.faults.LoadFault.TheVariants.{Failed, TooLong, OutOfMemory}
 use Rattle.std.specs.Io.{StartsWith}
-use Rattle.gr_outside.specs.Files.{FilesTold, failed_load, after_load}
+use Rattle.gr_outside.specs.Files.{FilesTold}
+use Rattle.gr_outside.specs.FileCalls.{failed_load, after_load}
 
 failed_load-other : {T : Type 0} (result : Result T LoadFault) → (IsErrOf result Failed → ⊥) → failed_load result ≡ false
 failed_load-other (Ok v) other = refl

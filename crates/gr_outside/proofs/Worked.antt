@@ -2,7 +2,8 @@
 use Rattle.std.proofs.Common.{◌≡◌, ◌^◌, ◌-◌, List, [], ◌∷◌, Some, None, Err, refl}
 use Rattle.gr_outside.specs.declared.faults.LoadFault.TheVariants.{Failed, TooLong}
 use Rattle.gr_outside.specs.Causes.{one_more}
-use Rattle.gr_outside.specs.Files.{Named, FilesTold, bytes_of, after_load}
+use Rattle.gr_outside.specs.Files.{Named, FilesTold, bytes_of}
+use Rattle.gr_outside.specs.FileCalls.{after_load}
 use Rattle.gr_outside.specs.Memory.{with_file}
 
 -- a file `a` of the byte 1, and a file `b` of the byte 2

@@ -1,7 +1,8 @@
 -- What files tell once one of them was made empty, or longer, by one call or by several.
 use Rattle.std.proofs.Common.{◌≡◌, ℕ, List, [], ◌++◌, Option, Some, None, refl, sym, ap, ◌∙◌, subst}
 use Rattle.std.specs.Prelude.{IfSome, IsSomeAnd, unwrap_or}
-use Rattle.gr_outside.specs.Files.{Named, FilesTold, bytes_of, KeepsOthers, HasWritten, Grows}
+use Rattle.gr_outside.specs.Files.{Named, FilesTold, bytes_of, KeepsOthers, HasWritten}
+use Rattle.gr_outside.specs.FileCalls.{Grows}
 use Rattle.gr_outside.specs.Memory.{with_file}
 use Rattle.gr_outside.proofs.NamedFiles.{bytes_of-with_file, with_file-KeepsOthers}
 

@@ -1,5 +1,5 @@
 -- Counts of what happened, which never fall.
-use Rattle.std.specs.Prelude.{◌≡◌, ℕ, ◌+◌, ◌-◌, ◌^◌, ◌≤◌, min}
+use Rattle.std.specs.Prelude.{ℕ, ◌+◌, ◌-◌, ◌^◌, ◌≤◌, min}
 
 -- one more, as far as 64 bits go
 abbrev pub one_more : ℕ → ℕ
@@ -8,9 +8,3 @@ one_more n = min (n + 1) (2 ^ 64 - 1)
 -- a count rose, or stands at 2^64 - 1
 abbrev pub Rose : ℕ → ℕ → Type 0
 Rose before after = one_more before ≤ after
-
--- a count rises exactly where something happened, and does not fall
-pub record Counts (Happened : Type 0) (before after : ℕ) : Type 0 where
-  pub rose : Happened → Rose before after
-  pub kept : (Happened → ⊥) → after ≡ before
-  pub later : before ≤ after

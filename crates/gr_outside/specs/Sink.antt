@@ -1,8 +1,5 @@
 -- What a sink took.
-use Rattle.std.specs.Prelude.{◌≡◌, ◌<◌, ◌≤◌, ℕ, List, ◌++◌, length, take, Option, Some, Result, IfOk, OnOk, OnErr, IfSome, IsErrOf}
-use Rattle.gr_outside.specs.declared.faults.SinkFault.{SinkFault}
-use Rattle.gr_outside.specs.declared.faults.SinkFault.TheVariants.{Failed}
-use Rattle.gr_outside.specs.Causes.{Counts}
+use Rattle.std.specs.Prelude.{◌≡◌, ℕ, List, ◌++◌, Option, Some, IfSome}
 
 -- the bytes that a sink took so far, where it tells them, and how often a put failed
 pub record SinkSeen : Type 0 where
@@ -12,17 +9,3 @@ pub record SinkSeen : Type 0 where
 -- where it told its bytes, it took these besides, and goes on telling
 abbrev pub Gains : SinkSeen → SinkSeen → List ℕ → Type 0
 Gains before after bytes = IfSome before.taken (λ had. after.taken ≡ Some (had ++ bytes))
-
--- one call of `put`
-pub record Puts (before after : SinkSeen) (bytes : List ℕ) (result : Result ℕ SinkFault) : Type 0 where
-  pub within : IfOk result (λ n. n ≤ length bytes)
-  pub some : IfOk result (λ n. 0 < length bytes → 0 < n)
-  pub gained : IfOk result (λ n. Gains before after (take n bytes))
-  pub refused : OnErr result (IfSome before.taken (λ had. after.taken ≡ Some had))
-  pub faults : Counts (IsErrOf result Failed) before.faults after.faults
-
--- one call of `write_whole`
-pub record WritesWhole {T : Type 0} (before after : SinkSeen) (bytes : List ℕ) (result : Result T SinkFault) : Type 0 where
-  pub whole : OnOk result (Gains before after bytes)
-  pub part : OnErr result ((n : ℕ) × (n ≤ length bytes) × Gains before after (take n bytes))
-  pub faults : Counts (IsErrOf result Failed) before.faults after.faults

@@ -1,5 +1,6 @@
 ghost use Rattle.std.specs.Prelude.{◌≡◌, ◌+◌, ◌^◌, ◌<◌, [], IsTrue, IfSome, is_some};
-ghost use Rattle.gr_outside.specs.Files.{FilesSeen, Loads, Begins, Extends};
+ghost use Rattle.gr_outside.specs.Files.{FilesSeen};
+ghost use Rattle.gr_outside.specs.FileCalls.{Loads, Begins, Extends};
 
 use crate::{FileFault, LoadFault};
 use std::alloc::Global;

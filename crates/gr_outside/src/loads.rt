@@ -1,6 +1,6 @@
 ghost use Rattle.std.specs.Prelude.{◌≡◌, ◌+◌, ◌^◌, ◌≤◌, ◌<◌, [], length, OnOk, OnErr, IsErrOf, IsTrue};
 ghost use Rattle.std.specs.Io.{StartsWith};
-ghost use Rattle.gr_outside.specs.Causes.{Counts};
+ghost use Rattle.gr_outside.specs.Counting.{Counts};
 
 use crate::LoadFault;
 

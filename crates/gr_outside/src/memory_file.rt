@@ -95,7 +95,8 @@ pub(crate) fn extend_file(
     name: &str,
     bytes: &[u8],
 ) -> Result<(), AllocError>
-    ensures ok { OnOk result (files.new.items ≡ with_file files.old.items name.now (unwrap_or (bytes_of files.old.items name.now) [] ++ bytes.now)) }
+    ensures ok { OnOk result (files.new.items
+        ≡ with_file files.old.items name.now (unwrap_or (bytes_of files.old.items name.now) [] ++ bytes.now)) }
     ensures err { OnErr result (files.new.items ≡ files.old.items) }
 {
     match position_of(files, name) {

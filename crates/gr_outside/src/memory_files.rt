@@ -1,8 +1,10 @@
-ghost use Rattle.std.specs.Prelude.{◌≡◌, ◌+◌, ◌^◌, ◌<◌, ◌↔◌, ◌⊎◌, [], length, None, OnOk, OnErr, IfOk, IsErrOf, IsTrue, is_some};
+ghost use Rattle.std.specs.Prelude.{◌≡◌, ◌+◌, ◌^◌, ◌<◌, ◌↔◌, ◌⊎◌, []};
+ghost use Rattle.std.specs.Prelude.{length, None, OnOk, OnErr, IfOk, IsErrOf, IsTrue, is_some};
 ghost use Rattle.std.specs.List.{Contains};
 ghost use Rattle.std.specs.Option.{option_copied};
 ghost use Rattle.gr_outside.specs.Causes.{one_more};
-ghost use Rattle.gr_outside.specs.Files.{bytes_of, Loads, Begins, Extends};
+ghost use Rattle.gr_outside.specs.Files.{bytes_of};
+ghost use Rattle.gr_outside.specs.FileCalls.{Loads, Begins, Extends};
 ghost use Rattle.gr_outside.specs.Memory.{files_seen, with_file};
 
 use crate::fail_list::is_listed;
@@ -50,7 +52,16 @@ impl Model for MemoryFiles {
 impl MemoryFiles {
     /// No file, and the numbers of the calls that fail. It takes no memory.
     pub fn new(alloc: Global, fail: Items<u32>) -> MemoryFiles
-        ensures { result ≡ record { files = []; failed = None; begun = None; fail = fail; calls = 0; load_faults = 0; long_loads = 0; write_faults = 0 } }
+        ensures { result ≡ record {
+          files = [];
+          failed = None;
+          begun = None;
+          fail = fail;
+          calls = 0;
+          load_faults = 0;
+          long_loads = 0;
+          write_faults = 0;
+        } }
     {
         MemoryFiles {
             alloc,

@@ -1,7 +1,7 @@
 ghost use Rattle.std.specs.Prelude.{◌≡◌, ◌↔◌, [], length, IfOk, IsErrOf};
 ghost use Rattle.std.specs.List.{Contains};
 ghost use Rattle.gr_outside.specs.Causes.{one_more};
-ghost use Rattle.gr_outside.specs.Sink.{Puts};
+ghost use Rattle.gr_outside.specs.SinkCalls.{Puts};
 ghost use Rattle.gr_outside.specs.Memory.{sink_seen};
 
 use crate::fail_list::is_listed;

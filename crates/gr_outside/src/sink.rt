@@ -1,6 +1,7 @@
 ghost use Rattle.std.specs.Prelude.{◌≡◌, length, OnErr, OnOk};
 ghost use Rattle.gr_outside.specs.declared.faults.SinkFault.{SinkFault};
-ghost use Rattle.gr_outside.specs.Sink.{SinkSeen, Puts, WritesWhole};
+ghost use Rattle.gr_outside.specs.Sink.{SinkSeen};
+ghost use Rattle.gr_outside.specs.SinkCalls.{Puts, WritesWhole};
 
 use crate::SinkFault;
 use std::alloc::Global;

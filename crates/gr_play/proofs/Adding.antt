@@ -4,7 +4,8 @@ use Rattle.std.specs.Option.{option_copied}
 use Rattle.std.specs.Prelude.{is_some, IsSome, IfSome, Ok, Err}
 use Rattle.std.proofs.lemmas.List.{append-nil, drop-take, drop-drop, take-take, take_all, take-append-drop}
 use Rattle.gr_outside.specs.declared.faults.FileFault.{FileFault}
-use Rattle.gr_outside.specs.Files.{FilesSeen, HasWritten, Extends}
+use Rattle.gr_outside.specs.Files.{FilesSeen, HasWritten}
+use Rattle.gr_outside.specs.FileCalls.{Extends}
 use Rattle.gr_outside.proofs.Written.{told-grows, told-refused}
 use Rattle.gr_play.specs.Inside.Adding.{GainsTrace, Adds}
 use Rattle.gr_play.specs.Tracing.{Traces, TracesPart}

@@ -1,6 +1,7 @@
 -- What a step keeps, and what it leaves of the way to the end.
 use Rattle.std.proofs.Common.{◌≡◌, ◌≤◌, ℕ, ◌+◌, Bool, refl, sym, subst, arith, Some, ◌⊎◌, inl, inr}
-use Rattle.gr_program.specs.Program.{Program, ProgramLaws}
+use Rattle.gr_program.specs.Program.{Program}
+use Rattle.gr_program.specs.ProgramLaws.{ProgramLaws}
 use Rattle.gr_batch.specs.Telling.{Telling}
 use Rattle.gr_outside.specs.Files.{FilesSeen}
 use Rattle.gr_sched.specs.declared.event.Event.{Event}

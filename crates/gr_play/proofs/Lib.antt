@@ -7,4 +7,3 @@ pub mod Placed
 pub mod Positions
 pub mod Reached
 pub mod Rooms
-pub mod Workers

@@ -2,7 +2,8 @@
 use Rattle.std.proofs.Common.{◌≡◌, ◌≤◌, ◌<◌, ℕ, ◌+◌, List, [], ◌∷◌, cond, ◌&&◌, Bool, true, false, refl, sym, ap, ◌∙◌, subst, arith, Some, None, ◌⊎◌}
 use Rattle.std.specs.Prelude.{IsTrue, Result, Ok, Err, OnOk, OnErr}
 use Rattle.std.proofs.lemmas.List.Sums.{sum_by-cons}
-use Rattle.gr_program.specs.Program.{Program, ProgramLaws}
+use Rattle.gr_program.specs.Program.{Program}
+use Rattle.gr_program.specs.ProgramLaws.{ProgramLaws}
 use Rattle.gr_batch.specs.Telling.{Telling}
 use Rattle.gr_outside.specs.Causes.{Rose}
 use Rattle.gr_outside.specs.Files.{FilesSeen}

@@ -13,7 +13,7 @@ use Rattle.gr_cluster.specs.TraceText.{trace_line, trace_text}
 use Rattle.gr_lists.proofs.Tests.{by_option}
 use Rattle.gr_play.specs.Playing.{Plays}
 use Rattle.gr_play.specs.Inside.Progress.{SameFrom, Leads}
-use Rattle.gr_play.specs.Tracing.{text_of_steps}
+use Rattle.gr_play.specs.TracedSteps.{text_of_steps}
 
 module _ {V A : Type 0} (P : Program V A) where
   -- where no step comes the position stays

@@ -15,7 +15,7 @@ use Rattle.gr_cluster.specs.Runs.{Position, IsWhole, is_commit, event_of, lines_
 use Rattle.gr_play.specs.Playing.{start, Plays}
 use Rattle.gr_play.specs.Inside.Progress.{canonical_line, SameFrom, PlaysTo, PlaysPart, PlaysEvent, FailsBefore, FailsAfter}
 use Rattle.gr_play.specs.Inside.Adding.{Adds}
-use Rattle.gr_play.specs.Tracing.{text_of_steps}
+use Rattle.gr_play.specs.TracedSteps.{text_of_steps}
 use Rattle.gr_play.proofs.Adding.{Adds-nothing, Adds-trans}
 use Rattle.gr_play.proofs.Positions.{Leads-nothing, Leads-one, Leads-trans, Leads-plays, Leads-Plays, Plays-nothing, next-some, text-nothing, text-one, text-add}
 

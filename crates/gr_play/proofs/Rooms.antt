@@ -1,6 +1,7 @@
 -- Room in the counts of a cluster, and what a step leaves of it.
 use Rattle.std.proofs.Common.{◌≡◌, ℕ, ◌+◌, ◌*◌, ◌^◌, ◌<◌, ◌≤◌, length, arith, Some}
-use Rattle.gr_program.specs.Program.{Program, ProgramLaws}
+use Rattle.gr_program.specs.Program.{Program}
+use Rattle.gr_program.specs.ProgramLaws.{ProgramLaws}
 use Rattle.gr_sched.specs.declared.event.Event.{Event}
 use Rattle.gr_cluster.specs.Tables.{Cluster}
 use Rattle.gr_cluster.specs.Step.{step}

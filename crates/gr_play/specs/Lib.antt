@@ -1,3 +1,4 @@
 pub mod Inside
 pub mod Playing
+pub mod TracedSteps
 pub mod Tracing

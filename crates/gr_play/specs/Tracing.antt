@@ -1,14 +1,6 @@
 -- What a call of `play` leaves in the file of its trace.
 use Rattle.std.specs.Prelude.{ℕ, ◌≡◌, false, List, take, IsTrue, IfSome, IsSomeAnd}
-use Rattle.gr_program.specs.Program.{Program}
-use Rattle.gr_batch.specs.Telling.{Telling}
 use Rattle.gr_outside.specs.Files.{FilesSeen, HasWritten, LetsGo}
-use Rattle.gr_cluster.specs.Runs.{Position, steps_of}
-use Rattle.gr_cluster.specs.TraceText.{trace_text}
-
--- the text of the first steps from a position
-abbrev pub text_of_steps : {V A : Type 0} → Program V A → Telling V A → Position V A → ℕ → List ℕ
-text_of_steps P T s steps = trace_text T (steps_of P steps s)
 
 -- the named file is begun and has this text, and every other file is as before
 abbrev pub Traces : FilesSeen → FilesSeen → List ℕ → List ℕ → Type 0
@@ -18,8 +10,3 @@ Traces before after name text = IfSome before.told (λ t. IsSomeAnd after.told (
 pub record TracesPart (before after : FilesSeen) (name text : List ℕ) : Type 0 where
   pub begun : IsTrue after.is_begun → (n : ℕ) × Traces before after name (take n text)
   pub not_begun : after.is_begun ≡ false → IfSome before.told (λ t. IsSomeAnd after.told (LetsGo t name))
-
--- no load was counted
-pub record CountsNoLoad (before after : FilesSeen) : Type 0 where
-  pub load_faults : after.load_faults ≡ before.load_faults
-  pub long_loads : after.long_loads ≡ before.long_loads

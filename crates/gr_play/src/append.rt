@@ -15,7 +15,8 @@ pub(crate) fn append_whole<F: Files>(
     requires { IsTrue (F.seen files.old).is_begun }
     ensures ok { OnOk result (Adds true (F.seen files.old) (F.seen files.new) bytes.now) }
     ensures err { OnErr result ((n : ℕ) × Adds true (F.seen files.old) (F.seen files.new) (take n bytes.now)) }
-    ensures fault { IsErrOf result FileFault.Failed → Rose (F.seen files.old).write_faults (F.seen files.new).write_faults }
+    ensures fault { IsErrOf result FileFault.Failed
+        → Rose (F.seen files.old).write_faults (F.seen files.new).write_faults }
 {
     let mut rest = bytes;
     while !rest.is_empty() {

@@ -12,9 +12,9 @@ use gr_program::VertexProgram;
 use gr_sched::Event;
 use gr_view::Mode;
 
-/// The event that comes next where nobody chooses: the delivery of the first batch in flight; else the work of the least
-/// place that can work; else, after a failure and where no further live place is down, a recovery with a spare for each
-/// of the first dead places; else a barrier. None exactly where the run is over.
+/// The event that comes next where nobody chooses: the delivery of the first batch in flight; else the work of the
+/// least place that can work; else, after a failure and where no further live place is down, a recovery with a spare
+/// for each of the first dead places; else a barrier. None exactly where the run is over.
 ///
 /// It takes no memory, and for each place the time to look at its inbox.
 pub fn next_canonical<P: VertexProgram>(cluster: &Cluster<P>) -> Option<Event>
@@ -35,13 +35,14 @@ fn next_event<P: VertexProgram>(cluster: &Cluster<P>) -> Event
     if cluster.flight_len() > 0 {
         return Event::Deliver(0);
     }
-    match first_worker(cluster) {
+    match cluster.first_worker() {
         Some(p) => Event::Work(p),
         None => decision(cluster),
     }
 }
 
-// What is asked of the coordinator: after a failure a recovery, unless a further live place is down, and else a barrier.
+// What is asked of the coordinator: after a failure a recovery, unless a further live place is down, and else a
+// barrier.
 fn decision<P: VertexProgram>(cluster: &Cluster<P>) -> Event
     ensures { result ≡ canonical_decision cluster.now.cluster }
 {
@@ -78,16 +79,4 @@ fn first_places(places: PlaceSet, count: u8) -> PlaceSet
         }
     }
     first
-}
-
-// The least place that can work.
-fn first_worker<P: VertexProgram>(cluster: &Cluster<P>) -> Option<u8>
-    ensures { result ≡ find (λ p. can_work cluster.now.cluster.coordinator p (host cluster.now.cluster p)) (below cluster.now.cluster.places) }
-{
-    for p in 0..cluster.places() {
-        if cluster.can_work(p) {
-            return Some(p);
-        }
-    }
-    None
 }

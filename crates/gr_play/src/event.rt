@@ -1,4 +1,4 @@
-ghost use Rattle.std.specs.Prelude.{ℕ, ◌≡◌, ◌⊎◌, take, IsTrue, IfOk, OnOk, OnErr, IsErrOf};
+ghost use Rattle.std.specs.Prelude.{ℕ, ◌≡◌, ◌⊎◌, [], take, IsTrue, IfOk, OnOk, OnErr, IsErrOf};
 ghost use Rattle.gr_outside.specs.Causes.{Rose};
 ghost use Rattle.gr_batch.specs.Telling.{telling};
 ghost use Rattle.gr_sched.specs.declared.event.Line.TheVariants as line;
@@ -13,6 +13,7 @@ ghost use Rattle.gr_play.specs.Inside.Adding.{Adds};
 
 use crate::append::append_whole;
 use crate::stop::Stop;
+use gr_base::OutOfMemory;
 use gr_batch::Outcome;
 use gr_core::Cluster;
 use gr_outside::Files;
@@ -20,6 +21,9 @@ use gr_program::{Datum, VertexProgram};
 use gr_report::push_outcome;
 use gr_sched::Event;
 use std::alloc::Global;
+
+// The length of most lines, in bytes.
+const LINE_SIZE: usize = 128;
 
 /// Plays one event: the cluster takes the step, the step is counted, and where there is a trace its line is appended.
 /// It answers whether the step was a commit.
@@ -34,12 +38,19 @@ pub(crate) fn play_event<P: VertexProgram, F: Files>(
     requires places { IsTrue (are_below cluster.old.cluster.places (places_of (line.Step event))) }
     requires room { HasRoom cluster.old.cluster steps.old }
     requires begun { IsTrue traced → IsTrue (F.seen files.old).is_begun }
-    ensures ok { IfOk result (λ commits. PlaysEvent (P.program_of cluster.old.program) (telling P.Value.numbers_of P.Acc.numbers_of) traced steps.old steps.new (F.seen files.old) (F.seen files.new) cluster.old.cluster event cluster.new.cluster commits) }
-    ensures err { OnErr result (FailsBefore (P.program_of cluster.old.program) (telling P.Value.numbers_of P.Acc.numbers_of) traced steps.old steps.new (F.seen files.old) (F.seen files.new) cluster.old.cluster event cluster.new.cluster
-        ⊎ FailsAfter (P.program_of cluster.old.program) (telling P.Value.numbers_of P.Acc.numbers_of) traced steps.old steps.new (F.seen files.old) (F.seen files.new) cluster.old.cluster event cluster.new.cluster) }
+    ensures ok { IfOk result (λ commits. PlaysEvent (P.program_of cluster.old.program)
+        (telling P.Value.numbers_of P.Acc.numbers_of) traced steps.old steps.new (F.seen files.old)
+        (F.seen files.new) cluster.old.cluster event cluster.new.cluster commits) }
+    ensures err { OnErr result (FailsBefore (P.program_of cluster.old.program)
+        (telling P.Value.numbers_of P.Acc.numbers_of) traced steps.old steps.new (F.seen files.old)
+        (F.seen files.new) cluster.old.cluster event cluster.new.cluster
+        ⊎ FailsAfter (P.program_of cluster.old.program)
+        (telling P.Value.numbers_of P.Acc.numbers_of) traced steps.old steps.new (F.seen files.old)
+        (F.seen files.new) cluster.old.cluster event cluster.new.cluster) }
     ensures agrees { Invariant (P.program_of cluster.old.program) cluster.new.cluster }
     ensures program { cluster.new.program ≡ cluster.old.program }
-    ensures fault { IsErrOf result Stop.TraceFault → IsTrue traced × Rose (F.seen files.old).write_faults (F.seen files.new).write_faults }
+    ensures fault { IsErrOf result Stop.TraceFault → IsTrue traced
+        × Rose (F.seen files.old).write_faults (F.seen files.new).write_faults }
 {
     let told = event;
     let taken = cluster.step(event);
@@ -65,9 +76,13 @@ fn tell<V: Datum, A: Datum, F: Files>(
     requires goes { IsTrue (goes_with event outcome.now) }
     requires begun { IsTrue traced → IsTrue (F.seen files.old).is_begun }
     ensures commits { IfOk result (λ commits. commits ≡ is_commit outcome.now) }
-    ensures ok { OnOk result (Adds traced (F.seen files.old) (F.seen files.new) (outcome_line (telling V.numbers_of A.numbers_of) event outcome.now)) }
-    ensures err { OnErr result ((n : ℕ) × Adds traced (F.seen files.old) (F.seen files.new) (take n (outcome_line (telling V.numbers_of A.numbers_of) event outcome.now))) }
-    ensures fault { IsErrOf result Stop.TraceFault → IsTrue traced × Rose (F.seen files.old).write_faults (F.seen files.new).write_faults }
+    ensures ok { OnOk result (Adds traced (F.seen files.old) (F.seen files.new)
+        (outcome_line (telling V.numbers_of A.numbers_of) event outcome.now)) }
+    ensures err { OnErr result ((n : ℕ)
+        × Adds traced (F.seen files.old) (F.seen files.new)
+        (take n (outcome_line (telling V.numbers_of A.numbers_of) event outcome.now))) }
+    ensures fault { IsErrOf result Stop.TraceFault → IsTrue traced
+        × Rose (F.seen files.old).write_faults (F.seen files.new).write_faults }
 {
     trace(alloc, event, outcome, files, traced)?;
     Ok(is_commit(outcome))
@@ -83,17 +98,29 @@ fn trace<V: Datum, A: Datum, F: Files>(
 ) -> Result<(), Stop>
     requires goes { IsTrue (goes_with event outcome.now) }
     requires begun { IsTrue traced → IsTrue (F.seen files.old).is_begun }
-    ensures ok { OnOk result (Adds traced (F.seen files.old) (F.seen files.new) (outcome_line (telling V.numbers_of A.numbers_of) event outcome.now)) }
-    ensures err { OnErr result ((n : ℕ) × Adds traced (F.seen files.old) (F.seen files.new) (take n (outcome_line (telling V.numbers_of A.numbers_of) event outcome.now))) }
-    ensures fault { IsErrOf result Stop.TraceFault → IsTrue traced × Rose (F.seen files.old).write_faults (F.seen files.new).write_faults }
+    ensures ok { OnOk result (Adds traced (F.seen files.old) (F.seen files.new)
+        (outcome_line (telling V.numbers_of A.numbers_of) event outcome.now)) }
+    ensures err { OnErr result ((n : ℕ)
+        × Adds traced (F.seen files.old) (F.seen files.new)
+        (take n (outcome_line (telling V.numbers_of A.numbers_of) event outcome.now))) }
+    ensures fault { IsErrOf result Stop.TraceFault → IsTrue traced
+        × Rose (F.seen files.old).write_faults (F.seen files.new).write_faults }
 {
     if !traced {
         return Ok(());
     }
-    let mut line = Vec::new(alloc);
+    let mut line = empty_line(alloc)?;
     push_outcome(alloc, &mut line, event, outcome)?;
     append_whole(alloc, files, &line)?;
     Ok(())
+}
+
+// An empty line, with memory for the length that most lines have.
+fn empty_line(alloc: Global) -> Result<Vec<u8>, OutOfMemory>
+    ensures { IfOk result (λ line. line.items ≡ []) }
+{
+    let line = Vec::with_capacity(alloc, LINE_SIZE)?;
+    Ok(line)
 }
 
 // Whether a step was a commit.

@@ -32,12 +32,18 @@ pub(crate) fn play_lines<P: VertexProgram, F: Files>(
     requires places { All (λ l. IsTrue (are_below cluster.old.cluster.places (places_of l))) schedule.now }
     requires room { HasRoomFor cluster.old.cluster steps.old (length schedule.now) }
     requires begun { IsTrue traced → IsTrue (F.seen files.old).is_begun }
-    ensures ok { OnOk result (PlaysTo (P.program_of cluster.old.program) (telling P.Value.numbers_of P.Acc.numbers_of) traced steps.old steps.new (F.seen files.old) (F.seen files.new) (start cluster.old.cluster schedule.now) (start cluster.new.cluster [])) }
-    ensures err { OnErr result (PlaysPart (P.program_of cluster.old.program) (telling P.Value.numbers_of P.Acc.numbers_of) traced steps.old steps.new (F.seen files.old) (F.seen files.new) (start cluster.old.cluster schedule.now) cluster.new.cluster) }
-    ensures few { steps.new + to_go cluster.new.cluster ≤ steps.old + to_go cluster.old.cluster + most_added * event_lines schedule.now }
+    ensures ok { OnOk result (PlaysTo (P.program_of cluster.old.program)
+        (telling P.Value.numbers_of P.Acc.numbers_of) traced steps.old steps.new (F.seen files.old) (F.seen files.new)
+        (start cluster.old.cluster schedule.now) (start cluster.new.cluster [])) }
+    ensures err { OnErr result (PlaysPart (P.program_of cluster.old.program)
+        (telling P.Value.numbers_of P.Acc.numbers_of) traced steps.old steps.new (F.seen files.old) (F.seen files.new)
+        (start cluster.old.cluster schedule.now) cluster.new.cluster) }
+    ensures few { steps.new + to_go cluster.new.cluster
+        ≤ steps.old + to_go cluster.old.cluster + most_added * event_lines schedule.now }
     ensures agrees { Invariant (P.program_of cluster.old.program) cluster.new.cluster }
     ensures program { cluster.new.program ≡ cluster.old.program }
-    ensures fault { IsErrOf result Stop.TraceFault → IsTrue traced × Rose (F.seen files.old).write_faults (F.seen files.new).write_faults }
+    ensures fault { IsErrOf result Stop.TraceFault → IsTrue traced
+        × Rose (F.seen files.old).write_faults (F.seen files.new).write_faults }
 {
     'lines: for line in schedule {
         match play_line(alloc, cluster, *line, files, traced, steps) {
@@ -61,14 +67,23 @@ fn play_line<P: VertexProgram, F: Files>(
     requires places { IsTrue (are_below cluster.old.cluster.places (places_of line)) }
     requires room { HasRoomFor cluster.old.cluster steps.old 1 }
     requires begun { IsTrue traced → IsTrue (F.seen files.old).is_begun }
-    ensures ok { OnOk result ((rest : List kinds.Line) → PlaysTo (P.program_of cluster.old.program) (telling P.Value.numbers_of P.Acc.numbers_of) traced steps.old steps.new (F.seen files.old) (F.seen files.new) (start cluster.old.cluster (line ∷ rest)) (start cluster.new.cluster rest)) }
-    ensures err { OnErr result ((rest : List kinds.Line) → PlaysPart (P.program_of cluster.old.program) (telling P.Value.numbers_of P.Acc.numbers_of) traced steps.old steps.new (F.seen files.old) (F.seen files.new) (start cluster.old.cluster (line ∷ rest)) cluster.new.cluster) }
-    ensures room { OnOk result ((n : ℕ) → HasRoomFor cluster.old.cluster steps.old (n + 1) → HasRoomFor cluster.new.cluster steps.new n) }
-    ensures few { steps.new + to_go cluster.new.cluster ≤ steps.old + to_go cluster.old.cluster + most_added * event_lines (line ∷ []) }
+    ensures ok { OnOk result ((rest : List kinds.Line)
+        → PlaysTo (P.program_of cluster.old.program)
+        (telling P.Value.numbers_of P.Acc.numbers_of) traced steps.old steps.new (F.seen files.old) (F.seen files.new)
+        (start cluster.old.cluster (line ∷ rest)) (start cluster.new.cluster rest)) }
+    ensures err { OnErr result ((rest : List kinds.Line)
+        → PlaysPart (P.program_of cluster.old.program)
+        (telling P.Value.numbers_of P.Acc.numbers_of) traced steps.old steps.new (F.seen files.old) (F.seen files.new)
+        (start cluster.old.cluster (line ∷ rest)) cluster.new.cluster) }
+    ensures room { OnOk result ((n : ℕ) → HasRoomFor cluster.old.cluster steps.old (n + 1)
+        → HasRoomFor cluster.new.cluster steps.new n) }
+    ensures few { steps.new + to_go cluster.new.cluster
+        ≤ steps.old + to_go cluster.old.cluster + most_added * event_lines (line ∷ []) }
     ensures agrees { Invariant (P.program_of cluster.old.program) cluster.new.cluster }
     ensures program { cluster.new.program ≡ cluster.old.program }
     ensures places { cluster.new.cluster.places ≡ cluster.old.cluster.places }
-    ensures fault { IsErrOf result Stop.TraceFault → IsTrue traced × Rose (F.seen files.old).write_faults (F.seen files.new).write_faults }
+    ensures fault { IsErrOf result Stop.TraceFault → IsTrue traced
+        × Rose (F.seen files.old).write_faults (F.seen files.new).write_faults }
 {
     match line {
         Line::Step(event) => match play_event(alloc, cluster, event, files, traced, steps) {
@@ -92,14 +107,21 @@ fn play_canonical<P: VertexProgram, F: Files>(
     requires agrees { Invariant (P.program_of cluster.old.program) cluster.old.cluster }
     requires room { HasRoomFor cluster.old.cluster steps.old 0 }
     requires begun { IsTrue traced → IsTrue (F.seen files.old).is_begun }
-    ensures ok { OnOk result ((rest : List kinds.Line) → PlaysTo (P.program_of cluster.old.program) (telling P.Value.numbers_of P.Acc.numbers_of) traced steps.old steps.new (F.seen files.old) (F.seen files.new) (start cluster.old.cluster (canonical_line through_commit ∷ rest)) (start cluster.new.cluster rest)) }
-    ensures err { OnErr result ((rest : List kinds.Line) → PlaysPart (P.program_of cluster.old.program) (telling P.Value.numbers_of P.Acc.numbers_of) traced steps.old steps.new (F.seen files.old) (F.seen files.new) (start cluster.old.cluster (canonical_line through_commit ∷ rest)) cluster.new.cluster) }
+    ensures ok { OnOk result ((rest : List kinds.Line)
+        → PlaysTo (P.program_of cluster.old.program)
+        (telling P.Value.numbers_of P.Acc.numbers_of) traced steps.old steps.new (F.seen files.old) (F.seen files.new)
+        (start cluster.old.cluster (canonical_line through_commit ∷ rest)) (start cluster.new.cluster rest)) }
+    ensures err { OnErr result ((rest : List kinds.Line)
+        → PlaysPart (P.program_of cluster.old.program)
+        (telling P.Value.numbers_of P.Acc.numbers_of) traced steps.old steps.new (F.seen files.old) (F.seen files.new)
+        (start cluster.old.cluster (canonical_line through_commit ∷ rest)) cluster.new.cluster) }
     ensures room { (n : ℕ) → HasRoomFor cluster.old.cluster steps.old n → HasRoomFor cluster.new.cluster steps.new n }
     ensures few { steps.new + to_go cluster.new.cluster ≤ steps.old + to_go cluster.old.cluster }
     ensures agrees { Invariant (P.program_of cluster.old.program) cluster.new.cluster }
     ensures program { cluster.new.program ≡ cluster.old.program }
     ensures places { cluster.new.cluster.places ≡ cluster.old.cluster.places }
-    ensures fault { IsErrOf result Stop.TraceFault → IsTrue traced × Rose (F.seen files.old).write_faults (F.seen files.new).write_faults }
+    ensures fault { IsErrOf result Stop.TraceFault → IsTrue traced
+        × Rose (F.seen files.old).write_faults (F.seen files.new).write_faults }
 {
     'canonical: while let Some(event) = next_canonical(cluster) {
         match play_event(alloc, cluster, event, files, traced, steps) {

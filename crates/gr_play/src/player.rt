@@ -1,4 +1,5 @@
-ghost use Rattle.std.specs.Prelude.{◌≡◌, ◌≢◌, ◌<◌, ◌≤◌, ◌+◌, ◌*◌, ◌^◌, [], None, Some, length, is_ok, IsTrue, IsSome, IsNone, IfSome, IsSomeAnd, OnOk, OnErr, IsErrOf};
+ghost use Rattle.std.specs.Prelude.{◌≡◌, ◌≢◌, ◌<◌, ◌≤◌, ◌+◌, ◌*◌, ◌^◌, [], None, Some, length, is_ok, IsTrue, IsSome};
+ghost use Rattle.std.specs.Prelude.{IsNone, IfSome, IsSomeAnd, OnOk, OnErr, IsErrOf};
 ghost use Rattle.std.specs.List.{All};
 ghost use Rattle.std.specs.Option.{option_copied};
 ghost use Rattle.gr_outside.specs.Causes.{Rose};
@@ -10,7 +11,8 @@ ghost use Rattle.gr_cluster.specs.Ending.{ending_of};
 ghost use Rattle.gr_cluster.specs.ToGo.{most_added, to_go};
 ghost use Rattle.gr_agree.specs.Agree.{Invariant};
 ghost use Rattle.gr_play.specs.Playing.{start, event_lines, Plays, told_by};
-ghost use Rattle.gr_play.specs.Tracing.{text_of_steps, Traces, TracesPart, CountsNoLoad};
+ghost use Rattle.gr_play.specs.Tracing.{Traces, TracesPart};
+ghost use Rattle.gr_play.specs.TracedSteps.{text_of_steps, CountsNoLoad};
 
 use crate::ending::Ending;
 use crate::lines::play_lines;
@@ -45,18 +47,28 @@ pub fn play<P: VertexProgram, F: Files>(
     requires serial { cluster.old.cluster.serial < 2 ^ 62 }
     requires epoch { cluster.old.cluster.coordinator.epoch < 2 ^ 62 }
     requires commits { cluster.old.cluster.coordinator.commits < 2 ^ 62 }
-    ensures steps { Plays (P.program_of cluster.old.program) (start cluster.old.cluster schedule.now) steps.new cluster.new.cluster }
+    ensures steps { Plays (P.program_of cluster.old.program)
+        (start cluster.old.cluster schedule.now) steps.new cluster.new.cluster }
     ensures program { cluster.new.program ≡ cluster.old.program }
     ensures few { steps.new ≤ to_go cluster.old.cluster + most_added * event_lines schedule.now }
 
     // How it ends.
     ensures ending { IfSome (told_by result) (λ e. e ≡ ending_of cluster.new.cluster) }
-    ensures whole { IsSome (told_by result) → IsWhole (position_after (P.program_of cluster.old.program) steps.new (start cluster.old.cluster schedule.now)) }
-    ensures fault { result ≡ Ending.TraceFault → IsSome trace.entry × Rose (F.seen files.old).write_faults (F.seen files.new).write_faults }
+    ensures whole { IsSome (told_by result)
+        → IsWhole (position_after (P.program_of cluster.old.program) steps.new
+        (start cluster.old.cluster schedule.now)) }
+    ensures fault { result ≡ Ending.TraceFault → IsSome trace.entry
+        × Rose (F.seen files.old).write_faults (F.seen files.new).write_faults }
 
     // What it leaves in the files.
-    ensures traced { IsSome (told_by result) → IfSome (option_copied trace.entry) (λ name. Traces (F.seen files.old) (F.seen files.new) name (text_of_steps (P.program_of cluster.old.program) (telling P.Value.numbers_of P.Acc.numbers_of) (start cluster.old.cluster schedule.now) steps.new)) }
-    ensures part { told_by result ≡ None → IfSome (option_copied trace.entry) (λ name. TracesPart (F.seen files.old) (F.seen files.new) name (text_of_steps (P.program_of cluster.old.program) (telling P.Value.numbers_of P.Acc.numbers_of) (start cluster.old.cluster schedule.now) steps.new)) }
+    ensures traced { IsSome (told_by result)
+        → IfSome (option_copied trace.entry) (λ name. Traces (F.seen files.old) (F.seen files.new) name
+        (text_of_steps (P.program_of cluster.old.program) (telling P.Value.numbers_of P.Acc.numbers_of)
+        (start cluster.old.cluster schedule.now) steps.new)) }
+    ensures part { told_by result ≡ None
+        → IfSome (option_copied trace.entry) (λ name. TracesPart (F.seen files.old) (F.seen files.new) name
+        (text_of_steps (P.program_of cluster.old.program) (telling P.Value.numbers_of P.Acc.numbers_of)
+        (start cluster.old.cluster schedule.now) steps.new)) }
     ensures untraced { IsNone trace.entry → F.seen files.new ≡ F.seen files.old }
     ensures loads { CountsNoLoad (F.seen files.old) (F.seen files.new) }
 {
@@ -82,13 +94,17 @@ fn limit_of<P: VertexProgram>(cluster: &Cluster<P>) -> u32
 
 // Begins the file of the trace, where there is one.
 fn begin_trace<F: Files>(alloc: Global, files: &mut F, trace: Option<&str>) -> Result<(), Stop>
-    ensures ok { OnOk result (IfSome (option_copied trace.entry) (λ name. Traces (F.seen files.old) (F.seen files.new) name [])) }
-    ensures err { OnErr result (IsSome trace.entry × IfSome (option_copied trace.entry) (λ name. IfSome (F.seen files.old).told (λ t. IsSomeAnd (F.seen files.new).told (LetsGo t name)))) }
+    ensures ok { OnOk result (IfSome (option_copied trace.entry)
+        (λ name. Traces (F.seen files.old) (F.seen files.new) name [])) }
+    ensures err { OnErr result (IsSome trace.entry
+        × IfSome (option_copied trace.entry) (λ name. IfSome (F.seen files.old).told
+        (λ t. IsSomeAnd (F.seen files.new).told (LetsGo t name)))) }
     ensures begun { IsSome trace.entry → (F.seen files.new).is_begun ≡ is_ok result }
     ensures untraced { IsNone trace.entry → F.seen files.new ≡ F.seen files.old }
     ensures loads { CountsNoLoad (F.seen files.old) (F.seen files.new) }
     ensures later { (F.seen files.old).write_faults ≤ (F.seen files.new).write_faults }
-    ensures fault { IsErrOf result Stop.TraceFault → Rose (F.seen files.old).write_faults (F.seen files.new).write_faults }
+    ensures fault { IsErrOf result Stop.TraceFault
+        → Rose (F.seen files.old).write_faults (F.seen files.new).write_faults }
 {
     match trace {
         Some(name) => {

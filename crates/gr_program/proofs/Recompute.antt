@@ -7,7 +7,8 @@ use Rattle.std.proofs.lemmas.List.Folds.{list_any_at}
 use Rattle.std.proofs.lemmas.List.Sums.{get_or-le-sum_by}
 use Rattle.gr_base.specs.declared.records.Edge.{Edge}
 use Rattle.gr_base.specs.Degrees.{outdegree}
-use Rattle.gr_program.specs.Program.{Program, ProgramLaws, total}
+use Rattle.gr_program.specs.Program.{Program, total}
+use Rattle.gr_program.specs.ProgramLaws.{ProgramLaws}
 use Rattle.gr_program.specs.Rounds.{State, contribution, gathered, next_value, woke, after_round, first_state, state_after}
 use Rattle.gr_program.proofs.Totals.{total-kept}
 

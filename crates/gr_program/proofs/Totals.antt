@@ -3,7 +3,8 @@ use Rattle.std.proofs.Common.{◌≡◌, map, ◌∙◌, List, [], ◌∷◌, �
 use Rattle.std.specs.List.{All, fold}
 use Rattle.std.proofs.lemmas.List.Elements.{All-head, All-tail, All-append, All-cons, All-nil}
 use Rattle.std.proofs.lemmas.List.Sums.{fold-append}
-use Rattle.gr_program.specs.Program.{Program, ProgramLaws, total}
+use Rattle.gr_program.specs.Program.{Program, total}
+use Rattle.gr_program.specs.ProgramLaws.{ProgramLaws}
 use Rattle.gr_program.specs.Laws.{flat}
 
 module _ {V A : Type 0} {p : Program V A} (laws : ProgramLaws p) where

@@ -3,7 +3,8 @@ use Rattle.std.specs.Prelude.{◌≡◌, ℕ, ◌<◌, ◌^◌, false, IsTrue, L
 use Rattle.std.specs.List.{All}
 use Rattle.std.specs.List.Sorted.{IsPermutation}
 use Rattle.gr_base.specs.declared.records.Edge.{Edge}
-use Rattle.gr_program.specs.Program.{Program, ProgramLaws, total}
+use Rattle.gr_program.specs.Program.{Program, total}
+use Rattle.gr_program.specs.ProgramLaws.{ProgramLaws}
 use Rattle.gr_program.specs.Rounds.{IsLastRound, last_round, state_after, gathered}
 
 -- the lists, one after another

@@ -1,4 +1,5 @@
 pub mod Laws
 pub mod Program
+pub mod ProgramLaws
 pub mod Result
 pub mod Rounds

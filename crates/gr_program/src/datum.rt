@@ -5,7 +5,8 @@ use std::alloc::Global;
 ///
 /// Equal lists are equal values, and `==` says exactly this.
 pub trait Datum: Copy + Eq {
-    ghost use Rattle.std.specs.Prelude.{◌≡◌, ◌≢◌, ◌↔◌, ℕ, ◌<◌, ◌++◌, List, length, slice_get, IfSome, IfNone, OnOk, OnErr, IsTrue};
+    ghost use Rattle.std.specs.Prelude.{◌≡◌, ◌≢◌, ◌↔◌, ◌<◌, ◌++◌};
+    ghost use Rattle.std.specs.Prelude.{ℕ, List, length, slice_get, IfSome, IfNone, OnOk, OnErr, IsTrue};
 
     ghost WIDTH: { ℕ };
 

@@ -7,7 +7,8 @@ use crate::Datum;
 /// functions of `program_of`, which keep the laws of a program.
 pub trait VertexProgram: Drop {
     ghost use Rattle.std.specs.Prelude.{◌≡◌, ℕ, ◌<◌, ◌≤◌, Bool, IsTrue};
-    ghost use Rattle.gr_program.specs.Program.{Program, ProgramLaws};
+    ghost use Rattle.gr_program.specs.Program.{Program};
+    ghost use Rattle.gr_program.specs.ProgramLaws.{ProgramLaws};
 
     /// The value of a vertex.
     type Value: Datum;

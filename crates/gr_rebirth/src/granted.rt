@@ -8,8 +8,8 @@ use gr_program::{Datum, VertexCopy};
 use gr_rows::Rows;
 use std::alloc::Global;
 
-/// Stages the copies of a Grant body, in whatever order they stand; of several copies of a vertex the last one. It takes
-/// time linear in the copies of the place, and linear-logarithmic in these.
+/// Stages the copies of a Grant body, in whatever order they stand; of several copies of a vertex the last one. It
+/// takes time linear in the copies of the place, and linear-logarithmic in these.
 ///
 /// # Errors
 ///

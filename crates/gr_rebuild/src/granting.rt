@@ -39,8 +39,11 @@ pub fn granted_to<V: Datum, A: Datum>(
 ) -> Result<Items<VertexCopy<V>>, OutOfMemory>
     requires places { place.now.view.places ≤ 64 }
     requires masters { All (λ c. KnowsMaster (entry c)) rows.now.stable }
-    requires repair { place.now.repair ≡ true → RepairReady inbox.now place.now.epoch place.now.others place.now.view rows.now.stable }
-    ensures body { IfOk result (λ body. body ≡ copies_granted inbox.now place.now.epoch place.now.others place.now.view (wanted place.now.repair place.now.view) place.now.place rows.now.stable to) }
+    requires repair { place.now.repair ≡ true
+        → RepairReady inbox.now place.now.epoch place.now.others place.now.view rows.now.stable }
+    ensures body { IfOk result (λ body.
+        body ≡ copies_granted inbox.now place.now.epoch place.now.others place.now.view
+        (wanted place.now.repair place.now.view) place.now.place rows.now.stable to) }
     ensures rise { IfOk result (λ body. RisesBy vertex_of body) }
 {
     if place.repair {
@@ -67,8 +70,11 @@ pub fn granted<V: Datum, A: Datum>(
 ) -> Result<Items<VertexCopy<V>>, OutOfMemory>
     requires places { place.now.view.places ≤ 64 }
     requires masters { All (λ c. KnowsMaster (entry c)) rows.now.stable }
-    requires repair { place.now.repair ≡ true → RepairReady inbox.now place.now.epoch place.now.others place.now.view rows.now.stable }
-    ensures copies { IfOk result (λ copies. copies ≡ all_granted inbox.now place.now.epoch place.now.others place.now.view (wanted place.now.repair place.now.view) place.now.place rows.now.stable) }
+    requires repair { place.now.repair ≡ true
+        → RepairReady inbox.now place.now.epoch place.now.others place.now.view rows.now.stable }
+    ensures copies { IfOk result (λ copies. copies
+        ≡ all_granted inbox.now place.now.epoch place.now.others place.now.view
+        (wanted place.now.repair place.now.view) place.now.place rows.now.stable) }
     ensures rise { IfOk result (λ copies. RisesBy vertex_of copies) }
 {
     let mut copies = sent_copies(alloc, inbox, place.epoch, place.others)?;

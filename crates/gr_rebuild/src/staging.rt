@@ -11,13 +11,13 @@ use gr_rebirth::grant_into;
 use gr_rows::Rows;
 use std::alloc::Global;
 
-/// Stages the copies that the place is granted, by rising vertex, and the edges that it takes, by rising number. It takes
-/// time linear in the copies and edges of the place and these.
+/// Stages the copies that the place is granted, by rising vertex, and the edges that it takes, by rising number. It
+/// takes time linear in the copies and edges of the place and these.
 ///
 /// # Errors
 ///
-/// `OutOfMemory` if there is no room, as `Rows::stage_copies` and `Arcs::stage_edges` say. Then nothing is staged, not even
-/// what was staged before the call. If nothing was, rows and arcs are unchanged.
+/// `OutOfMemory` if there is no room, as `Rows::stage_copies` and `Arcs::stage_edges` say. Then nothing is staged, not
+/// even what was staged before the call. If nothing was, rows and arcs are unchanged.
 pub fn stage<V: Datum>(
     alloc: Global,
     rows: &mut Rows<V>,
@@ -27,8 +27,10 @@ pub fn stage<V: Datum>(
 ) -> Result<(), OutOfMemory>
     requires granted_rise { RisesBy vertex_of granted.now }
     requires taken_rise { RisesBy number_of taken.now }
-    ensures copies { OnOk result (rows.new ≡ record rows.old { pending = with_items vertex_of granted.now rows.old.pending }) }
-    ensures edges { OnOk result (arcs.new ≡ record arcs.old { pending = with_items number_of taken.now arcs.old.pending }) }
+    ensures copies { OnOk result (rows.new
+        ≡ record rows.old { pending = with_items vertex_of granted.now rows.old.pending }) }
+    ensures edges { OnOk result (arcs.new
+        ≡ record arcs.old { pending = with_items number_of taken.now arcs.old.pending }) }
     ensures no_copies { OnErr result (rows.new ≡ record rows.old { pending = rows.old.stable }) }
     ensures no_edges { OnErr result (arcs.new ≡ record arcs.old { pending = arcs.old.stable }) }
 {

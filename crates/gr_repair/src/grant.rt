@@ -1,4 +1,5 @@
-ghost use Rattle.std.specs.Prelude.{◌≡◌, ◌≤◌, ◌<◌, ◌+◌, ◌==◌, ◌&&◌, ◌||◌, [], None, ℕ, not, true, nat_lt, length, IfOk, if◌then◌else◌};
+ghost use Rattle.std.specs.Prelude.{◌≡◌, ◌≤◌, ◌<◌, ◌+◌, ◌==◌, ◌&&◌, ◌||◌, [], if◌then◌else◌};
+ghost use Rattle.std.specs.Prelude.{None, ℕ, not, true, nat_lt, length, IfOk};
 ghost use Rattle.std.specs.List.{All, filter};
 ghost use Rattle.gr_base.specs.Rising.{RisesBy, has};
 ghost use Rattle.gr_base.specs.Places.{below};

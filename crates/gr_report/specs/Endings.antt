@@ -1,6 +1,6 @@
 -- How a run ends that does not end done.
 use Rattle.std.specs.Prelude.{ℕ, List, ◌++◌, flat_map, length, decimal, codes}
-use Rattle.gr_sched.specs.Text.{word}
+use Rattle.gr_sched.specs.Words.{word}
 
 -- the texts of a run that loses vertices, and of one that ends early
 abbrev pub lost_text : List ℕ → List ℕ

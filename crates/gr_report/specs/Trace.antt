@@ -16,7 +16,8 @@ use Rattle.gr_batch.specs.Bodies.{stage_of_body}
 use Rattle.gr_batch.specs.Telling.{Telling}
 use Rattle.gr_sched.specs.declared.event.Event.{Event}
 use Rattle.gr_sched.specs.declared.event.Event.TheVariants as event
-use Rattle.gr_sched.specs.Text.{word, words, rebirth_text, event_text}
+use Rattle.gr_sched.specs.Words.{word}
+use Rattle.gr_sched.specs.EventText.{words, rebirth_text, event_text}
 
 abbrev pub stage_text : Stage → List ℕ
 stage_text stage.Gather = codes "gather"

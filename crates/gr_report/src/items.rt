@@ -1,5 +1,6 @@
 ghost use Rattle.std.specs.Prelude.{◌≡◌, ◌++◌, flat_map, codes, decimal, OnOk};
-ghost use Rattle.gr_sched.specs.Text.{word, words};
+ghost use Rattle.gr_sched.specs.Words.{word};
+ghost use Rattle.gr_sched.specs.EventText.{words};
 ghost use Rattle.gr_batch.specs.Telling.{telling};
 ghost use Rattle.gr_report.specs.Trace.{comma_text, mark_text, kept_text, part_text, new_text, copy_text, body_text};
 
@@ -98,7 +99,8 @@ fn write_degrees<V: Datum>(
     line: &mut Vec<u8>,
     copy: &VertexCopy<V>,
 ) -> Result<(), OutOfMemory>
-    ensures { OnOk result (line.new.items ≡ line.old.items ++ (word copy.now.vertex ++ codes ":" ++ decimal copy.now.indeg ++ codes ":" ++ decimal copy.now.outdeg)) }
+    ensures { OnOk result (line.new.items ≡ line.old.items
+        ++ (word copy.now.vertex ++ codes ":" ++ decimal copy.now.indeg ++ codes ":" ++ decimal copy.now.outdeg)) }
 {
     write_word(alloc, line, u64::from(copy.vertex))?;
     line.push(b':')?;
@@ -113,7 +115,9 @@ fn write_state<V: Datum>(
     line: &mut Vec<u8>,
     copy: &VertexCopy<V>,
 ) -> Result<(), OutOfMemory>
-    ensures { OnOk result (line.new.items ≡ line.old.items ++ (codes ":" ++ decimal copy.now.master ++ codes ":" ++ comma_text copy.now.holders ++ codes ":" ++ kept_text V.numbers_of copy.now.value ++ codes ":" ++ mark_text copy.now.due)) }
+    ensures { OnOk result (line.new.items ≡ line.old.items
+        ++ (codes ":" ++ decimal copy.now.master ++ codes ":" ++ comma_text copy.now.holders ++ codes ":"
+        ++ kept_text V.numbers_of copy.now.value ++ codes ":" ++ mark_text copy.now.due)) }
 {
     line.push(b':')?;
     push_number(alloc, line, u64::from(copy.master))?;

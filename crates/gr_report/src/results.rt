@@ -43,7 +43,8 @@ fn push_done<V: Datum>(
 }
 
 fn push_heading(alloc: Global, into: &mut Vec<u8>, last: u32, count: u64) -> Result<(), OutOfMemory>
-    ensures ok { OnOk result (into.new.items ≡ into.old.items ++ (codes "done " ++ decimal last ++ codes " " ++ decimal count ++ codes "\n")) }
+    ensures ok { OnOk result (into.new.items ≡ into.old.items
+        ++ (codes "done " ++ decimal last ++ codes " " ++ decimal count ++ codes "\n")) }
     ensures err { OnErr result (take (length into.old.items) into.new.items ≡ into.old.items) }
 {
     into.extend_from_slice(b"done ")?;

@@ -1,9 +1,10 @@
 ghost use Rattle.std.specs.Prelude.{◌≡◌, ◌++◌, codes, IsTrue, OnOk, OnErr};
 ghost use Rattle.gr_report.specs.Goes.{goes_with};
 ghost use Rattle.gr_batch.specs.Bodies.{stage_of_body};
-ghost use Rattle.gr_sched.specs.Text.{word};
+ghost use Rattle.gr_sched.specs.Words.{word};
 ghost use Rattle.gr_batch.specs.Telling.{telling};
-ghost use Rattle.gr_report.specs.Trace.{stage_text, place_of_event, work_text, opened_text, delivered_text, outcome_text, outcome_line};
+ghost use Rattle.gr_report.specs.Trace.{stage_text, place_of_event, work_text, opened_text};
+ghost use Rattle.gr_report.specs.Trace.{delivered_text, outcome_text, outcome_line};
 
 use crate::items::write_body;
 use crate::words::{write_fate, write_named, write_stage, write_text};
@@ -24,7 +25,8 @@ pub fn push_outcome<V: Datum, A: Datum>(
     outcome: &Outcome<V, A>,
 ) -> Result<(), OutOfMemory>
     requires goes { IsTrue (goes_with event outcome.now) }
-    ensures ok { OnOk result (into.new.items ≡ into.old.items ++ outcome_line (telling V.numbers_of A.numbers_of) event outcome.now) }
+    ensures ok { OnOk result (into.new.items ≡ into.old.items
+        ++ outcome_line (telling V.numbers_of A.numbers_of) event outcome.now) }
     ensures err { OnErr result (into.new.items ≡ into.old.items) }
 {
     let mut line = Vec::new(alloc);
@@ -40,7 +42,8 @@ fn write_outcome<V: Datum, A: Datum>(
     event: Event,
     outcome: &Outcome<V, A>,
 ) -> Result<(), OutOfMemory>
-    ensures { OnOk result (line.new.items ≡ line.old.items ++ outcome_text (telling V.numbers_of A.numbers_of) event outcome.now) }
+    ensures { OnOk result (line.new.items ≡ line.old.items
+        ++ outcome_text (telling V.numbers_of A.numbers_of) event outcome.now) }
 {
     match outcome {
         Outcome::Idle => {
@@ -107,7 +110,8 @@ fn write_computed(
     event: Event,
     stage: Stage,
 ) -> Result<(), OutOfMemory>
-    ensures { OnOk result (line.new.items ≡ line.old.items ++ (work_text event ++ codes " compute " ++ stage_text stage)) }
+    ensures { OnOk result (line.new.items ≡ line.old.items
+        ++ (work_text event ++ codes " compute " ++ stage_text stage)) }
 {
     write_named(alloc, line, b"work", u64::from(place_of(event)))?;
     write_text(line, b" compute ")?;
@@ -122,7 +126,8 @@ fn write_sent(
     stage: Stage,
     place: u8,
 ) -> Result<(), OutOfMemory>
-    ensures { OnOk result (line.new.items ≡ line.old.items ++ (work_text event ++ codes " send" ++ word serial ++ codes " " ++ stage_text stage ++ codes " to" ++ word place)) }
+    ensures { OnOk result (line.new.items ≡ line.old.items ++ (work_text event ++ codes " send" ++ word serial
+        ++ codes " " ++ stage_text stage ++ codes " to" ++ word place)) }
 {
     write_work(alloc, line, event, b" send", serial)?;
     write_text(line, b" ")?;
@@ -137,7 +142,8 @@ fn write_waiting(
     stage: Stage,
     place: u8,
 ) -> Result<(), OutOfMemory>
-    ensures { OnOk result (line.new.items ≡ line.old.items ++ (work_text event ++ codes " wait " ++ stage_text stage ++ word place)) }
+    ensures { OnOk result (line.new.items ≡ line.old.items
+        ++ (work_text event ++ codes " wait " ++ stage_text stage ++ word place)) }
 {
     write_named(alloc, line, b"work", u64::from(place_of(event)))?;
     write_text(line, b" wait ")?;
@@ -151,7 +157,8 @@ fn write_crashed(
     event: Event,
     kept: u32,
 ) -> Result<(), OutOfMemory>
-    ensures { OnOk result (line.new.items ≡ line.old.items ++ (codes "crash" ++ word (place_of_event event) ++ codes " kept" ++ word kept)) }
+    ensures { OnOk result (line.new.items ≡ line.old.items
+        ++ (codes "crash" ++ word (place_of_event event) ++ codes " kept" ++ word kept)) }
 {
     write_named(alloc, line, b"crash", u64::from(place_of(event)))?;
     write_named(alloc, line, b" kept", u64::from(kept))
@@ -164,7 +171,8 @@ fn write_committed(
     round: u32,
     due: u32,
 ) -> Result<(), OutOfMemory>
-    ensures { OnOk result (line.new.items ≡ line.old.items ++ (codes "barrier committed" ++ word count ++ codes " round" ++ word round ++ codes " due" ++ word due)) }
+    ensures { OnOk result (line.new.items ≡ line.old.items
+        ++ (codes "barrier committed" ++ word count ++ codes " round" ++ word round ++ codes " due" ++ word due)) }
 {
     write_named(alloc, line, b"barrier committed", count)?;
     write_next_round(alloc, line, round, due)
@@ -176,7 +184,8 @@ fn write_next_round(
     round: u32,
     due: u32,
 ) -> Result<(), OutOfMemory>
-    ensures { OnOk result (line.new.items ≡ line.old.items ++ (codes " round" ++ word round ++ codes " due" ++ word due)) }
+    ensures { OnOk result (line.new.items ≡ line.old.items
+        ++ (codes " round" ++ word round ++ codes " due" ++ word due)) }
 {
     write_named(alloc, line, b" round", u64::from(round))?;
     write_named(alloc, line, b" due", u64::from(due))
@@ -205,7 +214,8 @@ fn write_delivered<V: Datum, A: Datum>(
     batch: &Batch<V, A>,
     fate: Fate,
 ) -> Result<(), OutOfMemory>
-    ensures { OnOk result (line.new.items ≡ line.old.items ++ delivered_text (telling V.numbers_of A.numbers_of) batch.now fate) }
+    ensures { OnOk result (line.new.items ≡ line.old.items
+        ++ delivered_text (telling V.numbers_of A.numbers_of) batch.now fate) }
 {
     write_named(alloc, line, b"delivered", batch.serial)?;
     write_named(alloc, line, b" from", u64::from(batch.sender))?;

@@ -1,7 +1,7 @@
 ghost use Rattle.std.specs.Prelude.{◌≡◌, ◌<◌, ◌++◌, [], false, codes, decimal, if◌then◌else◌, OnOk, IfOk};
 ghost use Rattle.gr_base.specs.Places.{IsPlaces};
 ghost use Rattle.gr_base.specs.Rising.{has};
-ghost use Rattle.gr_sched.specs.Text.{word};
+ghost use Rattle.gr_sched.specs.Words.{word};
 ghost use Rattle.gr_report.specs.Trace.{stage_text, fate_text, comma_text, mark_text};
 
 use gr_base::{OutOfMemory, PlaceSet, push_number};
@@ -104,7 +104,8 @@ fn write_holder(
     p: u8,
 ) -> Result<bool, OutOfMemory>
     requires { p < 64 }
-    ensures told { OnOk result (line.new.items ≡ line.old.items ++ (if has holders p then (if is_first then decimal p else codes "," ++ decimal p) else [])) }
+    ensures told { OnOk result (line.new.items ≡ line.old.items
+        ++ (if has holders p then (if is_first then decimal p else codes "," ++ decimal p) else [])) }
     ensures first { IfOk result (λ none. none ≡ (if has holders p then false else is_first)) }
     ensures places { IsPlaces holders }
 {
@@ -118,7 +119,8 @@ fn write_holder(
 
 // A number of a joined list.
 fn write_next(alloc: Global, line: &mut Vec<u8>, is_first: bool, n: u64) -> Result<(), OutOfMemory>
-    ensures { OnOk result (line.new.items ≡ line.old.items ++ (if is_first then decimal n else codes "," ++ decimal n)) }
+    ensures { OnOk result (line.new.items ≡ line.old.items
+        ++ (if is_first then decimal n else codes "," ++ decimal n)) }
 {
     if !is_first {
         line.push(b',')?;

@@ -1,6 +1,7 @@
 pub mod Bringers
 pub mod Called
 pub mod Known
+pub mod Later
 pub mod Others
 pub mod Parties
 pub mod Passed

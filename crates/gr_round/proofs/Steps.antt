@@ -7,7 +7,8 @@ use Rattle.gr_batch.specs.Stages.{is_end}
 use Rattle.gr_batch.specs.declared.stage.Stage.{Stage}
 use Rattle.gr_rules.specs.Inbox.{missing}
 use Rattle.gr_rules.specs.Exchange.{Exchange, needed, unsent}
-use Rattle.gr_rules.specs.Todo.{Todo, compute_or_wait, send_or_rest, todo_in_round}
+use Rattle.gr_rules.specs.Todo.{Todo, compute_or_wait, send_or_rest}
+use Rattle.gr_round.specs.Todo.{todo_in_round}
 use Rattle.gr_round.specs.Line.{is_line}
 use Rattle.gr_round.specs.Todo.{todo_in_rebuild, AwaitsSending}
 

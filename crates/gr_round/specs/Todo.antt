@@ -4,7 +4,7 @@ use Rattle.gr_base.specs.Places.{without_place}
 use Rattle.gr_batch.specs.declared.batch.Batch.{Batch}
 use Rattle.gr_batch.specs.Stages.{is_end}
 use Rattle.gr_rules.specs.Exchange.{Exchange, needed, unsent}
-use Rattle.gr_rules.specs.Todo.{Todo, compute_or_wait, send_or_rest, todo_in_round}
+use Rattle.gr_rules.specs.Todo.{Todo, compute_or_wait, send_or_rest}
 use Rattle.gr_round.specs.declared.step.Step.{Step}
 use Rattle.gr_round.specs.declared.step.Step.TheVariants as step
 use Rattle.gr_round.specs.declared.view.RoundView.{RoundView}
@@ -26,6 +26,14 @@ place_to _ = 0
 -- a stage other than the end that is computed has a party left to send to
 abbrev pub AwaitsSending : List ℕ → Exchange → Type 0
 AwaitsSending others x = IsTrue x.computed → is_end x.stage ≡ false → IsSome (unsent others x.sent)
+
+-- in a round, at a place that has adopted its epoch
+unfoldable pub todo_in_round : {V A : Type 0} → List (Batch V A) → ℕ → List ℕ → Exchange → Bool → Todo
+todo_in_round inbox e others x reported =
+    if not x.computed then compute_or_wait inbox e others (needed false x.stage)
+    else if not (is_end x.stage) then send_or_rest (unsent others x.sent)
+    else if not reported then Todo.Report
+    else Todo.Rest
 
 -- what the place p does next, by the view, its inbox and its line
 abbrev pub next_at : {V A : Type 0} → ℕ → RoundView → List (Batch V A) → RoundLine → Todo

@@ -44,11 +44,11 @@ impl PlaceRound {
     /// `Ready`, where each computed stage other than the end has a party left to send to, as `note_sent` leaves it.
     /// These three take no memory and are never refused.
     ///
-    /// The new values of the due vertices that the place masters, each a sum over the edges into it, are computed once in a
-    /// round. From then on they are read from the pending copies.
+    /// The new values of the due vertices that the place masters, each a sum over the edges into it, are computed once
+    /// in a round. From then on they are read from the pending copies.
     ///
-    /// `targets` are those of `PlaceRound::targets`, if `takes_targets` says that the work takes them. They may be anything
-    /// otherwise.
+    /// `targets` are those of `PlaceRound::targets`, if `takes_targets` says that the work takes them. They may be
+    /// anything otherwise.
     ///
     /// # Errors
     ///

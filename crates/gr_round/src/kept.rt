@@ -17,8 +17,8 @@ impl PlaceRound {
     /// The targets of what woke at the place `me` in a round: the vertices to which an edge of the place leads from a
     /// vertex whose new value wakes, by the values that the place has computed and those that it was sent.
     ///
-    /// It takes a search for each due vertex that the place masters, and the time to sort the targets of the edges out of
-    /// what woke.
+    /// It takes a search for each due vertex that the place masters, and the time to sort the targets of the edges out
+    /// of what woke.
     ///
     /// # Errors
     ///

@@ -17,7 +17,7 @@ mod view;
 
 pub use act::Act;
 pub use due::due_count;
-pub use line::{PlaceRound, is_end, others_of};
+pub use line::{PlaceRound, is_end, is_of_targets, others_of};
 pub use party::Given;
 pub use step::Step;
 pub use view::RoundView;

@@ -92,8 +92,8 @@ impl PlaceRound {
         }
     }
 
-    /// Whether what the place does next takes the targets of what woke: it sends a Signal or a Call batch, or computes the
-    /// end. It takes no memory, and a search of the inbox for each other party.
+    /// Whether what the place does next takes the targets of what woke: it sends a Signal or a Call batch, or computes
+    /// the end. It takes no memory, and a search of the inbox for each other party.
     pub fn takes_targets<V: Datum, A: Datum>(
         &self,
         me: u8,
@@ -109,8 +109,8 @@ impl PlaceRound {
         }
     }
 
-    /// What the place does next in a rebuild of an epoch that it has adopted: like in a round, but it appends to its log
-    /// before it reports. It takes no memory, and a search of the inbox for each other party.
+    /// What the place does next in a rebuild of an epoch that it has adopted: like in a round, but it appends to its
+    /// log before it reports. It takes no memory, and a search of the inbox for each other party.
     pub fn next_in_rebuild<V: Datum, A: Datum>(
         &self,
         me: u8,
@@ -295,8 +295,9 @@ fn stage_after(stage: Stage) -> Stage
     }
 }
 
-/// Whether the batches of a stage are made of the targets of what woke.
-fn is_of_targets(stage: Stage) -> bool
+/// Whether the batches of a stage are made of the targets of what woke: those of Signal and of Call. Such a batch that
+/// comes to a place changes nothing of the targets there.
+pub fn is_of_targets(stage: Stage) -> bool
     ensures { result ≡ is_of_targets stage }
 {
     match stage {

@@ -98,8 +98,8 @@ fn is_hidden<V: Datum>(forgetful: bool, copy: &VertexCopy<V>) -> bool
     forgetful && copy.outdeg == 0
 }
 
-/// The new value of a copy's vertex. If the new values are staged, it is that of the pending copy. Otherwise its sum has
-/// the parts of these senders.
+/// The new value of a copy's vertex. If the new values are staged, it is that of the pending copy. Otherwise its sum
+/// has the parts of these senders.
 fn new_value<P: VertexProgram>(
     party: &Party,
     senders: PlaceSet,
@@ -159,7 +159,8 @@ fn old_value<P: VertexProgram>(program: &P, copy: &VertexCopy<P::Value>) -> P::V
     }
 }
 
-/// What the place's edges bring to a vertex, joined with each part that these senders sent in an epoch, by rising sender.
+/// What the place's edges bring to a vertex, joined with each part that these senders sent in an epoch, by rising
+/// sender.
 fn whole_sum<P: VertexProgram>(
     epoch: u64,
     senders: PlaceSet,

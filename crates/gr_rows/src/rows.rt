@@ -1,4 +1,5 @@
-ghost use Rattle.std.specs.Prelude.{◌≡◌, ◌<◌, ◌≤◌, ◌+◌, ◌^◌, ◌==◌, false, [], OnOk, OnErr, IsSome, IfSome, slice_get, length, map, find};
+ghost use Rattle.std.specs.Prelude.{◌≡◌, ◌<◌, ◌≤◌, ◌+◌, ◌^◌, ◌==◌, []};
+ghost use Rattle.std.specs.Prelude.{false, OnOk, OnErr, IsSome, IfSome, slice_get, length, map, find};
 ghost use Rattle.std.specs.List.{filter};
 ghost use Rattle.gr_base.specs.Rising.{RisesBy, with_item};
 ghost use Rattle.gr_log.specs.Directory.{with_items};
@@ -168,19 +169,21 @@ impl<V: Datum> Rows<V> {
         self.pending.put(copy)
     }
 
-    /// Puts copies of rising vertices into the pending layer, each in the place of that of its vertex if there is one. It
-    /// takes time linear in the copies of both layers and these.
+    /// Puts copies of rising vertices into the pending layer, each in the place of that of its vertex if there is one.
+    /// It takes time linear in the copies of both layers and these.
     ///
     /// # Errors
     ///
-    /// `OutOfMemory` if memory runs out, or if the pending layer would hold 2^32 copies. Then both layers are as before.
+    /// `OutOfMemory` if memory runs out, or if the pending layer would hold 2^32 copies. Then both layers are as
+    /// before.
     pub fn stage_copies(
         &mut self,
         alloc: Global,
         copies: &[VertexCopy<V>],
     ) -> Result<(), OutOfMemory>
         requires rise { RisesBy vertex_of copies.now }
-        ensures ok { OnOk result (self.new ≡ record self.old { pending = with_items vertex_of copies.now self.old.pending }) }
+        ensures ok { OnOk result (self.new
+            ≡ record self.old { pending = with_items vertex_of copies.now self.old.pending }) }
         ensures err { OnErr result (self.new ≡ self.old) }
     {
         let all = merge(alloc, self.pending.as_slice(), copies)?;

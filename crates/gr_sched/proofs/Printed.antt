@@ -16,7 +16,9 @@ use Rattle.gr_sched.specs.declared.event.Line.{Line}
 use Rattle.gr_sched.specs.declared.event.Line.TheVariants as line
 use Rattle.gr_sched.specs.declared.line.LineFound.TheVariants.{Skipped, Found, Misplaced}
 use Rattle.gr_sched.specs.Reading.{kept_of, crash_at, reborn_at, of_fields, line_of, lines_of, placed}
-use Rattle.gr_sched.specs.Text.{word, event_text, line_text, schedule_text}
+use Rattle.gr_sched.specs.Text.{line_text, schedule_text}
+use Rattle.gr_sched.specs.Words.{word}
+use Rattle.gr_sched.specs.EventText.{event_text}
 use Rattle.gr_sched.specs.Printed.{IsLine, IsWithin}
 use Rattle.gr_sched.proofs.Numbers.{number_of-decimal, all_numbers-decimal}
 

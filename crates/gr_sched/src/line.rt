@@ -2,7 +2,8 @@ ghost use Rattle.std.specs.Prelude.{◌≡◌, ◌≤◌, [], nat_lt, if◌then�
 ghost use Rattle.gr_base.specs.Places.{with_place};
 ghost use Rattle.gr_text.specs.Fields.{fields_of};
 ghost use Rattle.gr_sched.specs.Fields.{all_numbers};
-ghost use Rattle.gr_sched.specs.Reading.{keyword_of, bare, kept_of, crash_at, crash_of, reborn_at, rebirth_of, recover_of, said_by, places_of, placed, line_of};
+ghost use Rattle.gr_sched.specs.Reading.{keyword_of, bare, kept_of, crash_at, crash_of, reborn_at};
+ghost use Rattle.gr_sched.specs.Reading.{rebirth_of, recover_of, said_by, places_of, placed, line_of};
 
 use crate::event::{Event, Line};
 use crate::field::{read_number, read_only_number};

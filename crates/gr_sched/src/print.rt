@@ -4,7 +4,9 @@ ghost use Rattle.gr_base.specs.Places.{IsPlaces};
 ghost use Rattle.gr_base.specs.Rising.{has};
 ghost use Rattle.gr_sched.specs.Printed.{IsEvent, IsLine, IsWithin, IsReadAs};
 ghost use Rattle.gr_sched.specs.Reading.{max_events};
-ghost use Rattle.gr_sched.specs.Text.{word, words, keep_text, rebirth_text, event_text, line_text, schedule_text};
+ghost use Rattle.gr_sched.specs.Text.{line_text, schedule_text};
+ghost use Rattle.gr_sched.specs.Words.{word};
+ghost use Rattle.gr_sched.specs.EventText.{words, keep_text, rebirth_text, event_text};
 
 use crate::event::{Event, Line};
 use gr_base::{OutOfMemory, PlaceSet, push_number};

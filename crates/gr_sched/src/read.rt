@@ -1,6 +1,7 @@
 ghost use Rattle.std.specs.Prelude.{◌≡◌, ◌≤◌, ◌⊎◌, [], ◌++◌, length, Some, None, OnOk, IfOk, IfErr};
 ghost use Rattle.std.specs.Option.{option_or};
-ghost use Rattle.gr_sched.specs.Reading.{max_events, lines_of, said, schedule_of, fault_of_line, fault_of_count, first_fault};
+ghost use Rattle.gr_sched.specs.Reading.{max_events, lines_of, said, schedule_of};
+ghost use Rattle.gr_sched.specs.Reading.{fault_of_line, fault_of_count, first_fault};
 
 use crate::event::Line;
 use crate::fault::SchedFault;
@@ -22,7 +23,8 @@ pub fn read_schedule(alloc: Global, bytes: &[u8], places: u8) -> Result<Items<Li
     ensures accepted { OnOk result (first_fault (lines_of places bytes.now) ≡ None) }
     ensures lines { IfOk result (λ lines. lines ≡ schedule_of (lines_of places bytes.now)) }
     ensures few { IfOk result (λ lines. length lines ≤ max_events) }
-    ensures refused { IfErr result (λ fault. (fault ≡ SchedFault.OutOfMemory) ⊎ (first_fault (lines_of places bytes.now) ≡ Some fault)) }
+    ensures refused { IfErr result (λ fault. (fault ≡ SchedFault.OutOfMemory)
+        ⊎ (first_fault (lines_of places bytes.now) ≡ Some fault)) }
 {
     let mut lines = Items::new(alloc);
     take_lines(&mut lines, bytes, places)?;
@@ -37,7 +39,8 @@ fn take_lines(lines: &mut Items<Line>, bytes: &[u8], places: u8) -> Result<(), S
     ensures accepted { OnOk result (first_fault (lines_of places bytes.now) ≡ None) }
     ensures lines { OnOk result (lines.new ≡ schedule_of (lines_of places bytes.now)) }
     ensures few { OnOk result (length lines.new ≤ max_events) }
-    ensures refused { IfErr result (λ fault. (fault ≡ SchedFault.OutOfMemory) ⊎ (first_fault (lines_of places bytes.now) ≡ Some fault)) }
+    ensures refused { IfErr result (λ fault. (fault ≡ SchedFault.OutOfMemory)
+        ⊎ (first_fault (lines_of places bytes.now) ≡ Some fault)) }
 {
     let mut rest = bytes;
     let mut done: u32 = 0;

@@ -5,8 +5,8 @@ use crate::Amount;
 use gr_base::Items;
 use gr_program::VertexProgram;
 
-/// Which of up to 64 seeds reach a vertex: bit `i` of its value is set where a path leads from seed `i` to it. Seeds past
-/// the first 64 are not looked at.
+/// Which of up to 64 seeds reach a vertex: bit `i` of its value is set where a path leads from seed `i` to it. Seeds
+/// past the first 64 are not looked at.
 #[derive(Drop)]
 pub struct Reach {
     pub seeds: Items<u32>,

@@ -1,24 +1,17 @@
 -- Where the ends of edges stand among the vertices.
-use Rattle.gr_uncut.specs.Index.{AreSmall}
-use Rattle.std.proofs.Common.{◌≡◌, ◌∙◌, ◌<◌, ◌+◌, ◌||◌, ℕ, Bool, true, eqb, ltb, List, [], ◌∷◌, ◌++◌, length, take, get_or, set, map, refl, ap, sym, arith, inl, inr, ◌≤◌}
+use Rattle.std.proofs.Common.{◌≡◌, ◌∙◌, ◌<◌, ◌+◌, ◌||◌, ℕ, Bool, true, eqb, List, [], ◌∷◌, ◌++◌, length, take, get_or, map, refl, ap, sym, arith, inl, inr}
 use Rattle.std.specs.Prelude.{slice_index}
-use Rattle.std.specs.List.{All, filter, list_any, prefix_len}
-use Rattle.std.proofs.lemmas.Bool.{cases_order, cases_Bool, eq-eqb, ne_eqb, cases_eq, eqb-true}
-use Rattle.std.proofs.lemmas.List.{take_more, map-append, get_or_default, get_or-set_same, get_or-set_other, length-set}
+use Rattle.std.specs.List.{All, filter, list_any}
+use Rattle.std.proofs.lemmas.Bool.{cases_order, cases_Bool, eq-eqb, ne_eqb, eqb-true}
+use Rattle.std.proofs.lemmas.List.{take_more, map-append, get_or_default}
 use Rattle.std.proofs.lemmas.List.Elements.{All-cons, All-nil, All-head, All-tail}
 use Rattle.std.proofs.lemmas.List.Folds.{Any-from_list_any}
 use Rattle.gr_base.specs.Rising.{RisesBy, has}
-use Rattle.gr_base.proofs.Missing.{none-any}
-use Rattle.gr_base.proofs.Rising.{stands-at}
 use Rattle.gr_uncut.specs.Rows.{items_of}
 
 pub list_any-map : {X Y : Type 0} (f : X → Y) (p : Y → Bool) (xs : List X) → list_any p (map f xs) ≡ list_any (λ x. p (f x)) xs
 list_any-map f p [] = refl
 list_any-map f p (x ∷ xs) = ap (λ b. p (f x) || b) (list_any-map f p xs)
-
--- a number that stands in a rising list stands where the lower ones end
-pub found-at : {X : Type 0} (key : X → ℕ) (xs : List X) (v i : ℕ) (d : X) → RisesBy key xs → prefix_len (λ x. ltb (key x) v) xs ≡ i → has (map key xs) v ≡ true → (i < length xs) × (key (get_or xs i d) ≡ v)
-found-at key xs v i d rise at stands = stands-at key v xs i d rise at (λ none. let off = none-any (λ x. eqb (key x) v) xs none in let on = sym (list_any-map key (λ x. eqb x v) xs) ∙ stands in cc)
 
 -- positions of a rising list are told apart by what stands there
 pub same-position : (vs : List ℕ) (j k : ℕ) → RisesBy (λ (n : ℕ). n) vs → j < length vs → k < length vs → eqb (slice_index vs j) (slice_index vs k) ≡ eqb j k
@@ -35,36 +28,6 @@ pub place-of : (ks : List ℕ) (v : ℕ) → has ks v ≡ true → (k : ℕ) × 
 place-of ks v on =
     let some = Any-from_list_any (λ x. eqb x v) ks on in
     (some.0, some.2, get_or_default ks some.0 0 some.1 some.2 ∙ some.3 ∙ eqb-true some.1 v some.4)
-
--- the positions of small ids, one vertex more
-pub small-more : (vs small : List ℕ) (k : ℕ) → RisesBy (λ (n : ℕ). n) vs → k < length vs → slice_index vs k < length small
-    → ((j : ℕ) → j < k → slice_index vs j < length small → slice_index small (slice_index vs j) ≡ j)
-    → (j : ℕ) → j < k + 1 → slice_index vs j < length (set small (slice_index vs k) k) → slice_index (set small (slice_index vs k) k) (slice_index vs j) ≡ j
-small-more vs small k rise lt low was j before within = elim (cases_eq j k) [
-  | inl same ↦ ap (λ n. slice_index (set small (slice_index vs k) k) (slice_index vs n)) same ∙ get_or-set_same small (slice_index vs k) k 0 low ∙ sym same
-  | inr apart ↦
-      let q = rise j k 0 (omega arith) lt in
-      get_or-set_other small (slice_index vs k) (slice_index vs j) k 0 (λ e. omega arith)
-      ∙ was j (omega arith) (rw (← length-set small (slice_index vs k) k) within)
-]
-
--- the ids from one that is not small on are not small
-pub small-rest : (vs small : List ℕ) (k : ℕ) → RisesBy (λ (n : ℕ). n) vs → length small ≤ slice_index vs k
-    → ((j : ℕ) → j < k → slice_index vs j < length small → slice_index small (slice_index vs j) ≡ j) → AreSmall vs small
-small-rest vs small k rise past was = λ j lt low. elim (cases_order j k) [
-  | inl same ↦ let e = ap (slice_index vs) same in absurd (omega arith)
-  | inr o ↦ elim o [
-    | inl before ↦ was j before low
-    | inr after ↦ let q = rise k j 0 after lt in absurd (omega arith)
-  ]
-]
-
--- the position of a small id that stands in the list
-pub small-at : (vs small : List ℕ) (v : ℕ) → AreSmall vs small → has vs v ≡ true → v < length small → (slice_index small v < length vs) × (slice_index vs (slice_index small v) ≡ v)
-small-at vs small v are stands low =
-    let place = place-of vs v stands in
-    let at : slice_index small v ≡ place.0 = ap (slice_index small) (sym place.2) ∙ are place.0 place.1 (rw place.2 low) in
-    (rw at place.1, ap (slice_index vs) at ∙ place.2)
 
 -- one element more, on both sides
 pub maps-more : {X Y Z : Type 0} (f : X → Z) (g : Y → Z) (xs : List X) (ys : List Y) (i : ℕ) (x : X) (d : Y) → i < length ys → map f xs ≡ map g (take i ys) → f x ≡ g (get_or ys i d) → map f (xs ++ x ∷ []) ≡ map g (take (i + 1) ys)

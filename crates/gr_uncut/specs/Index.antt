@@ -20,10 +20,6 @@ pub record ArePositions (vs : List ℕ) (positions ids : List ℕ) : Type 0 wher
   pub within : All (λ k. k < length vs) positions
   pub at : map (slice_index vs) positions ≡ ids
 
--- the position of each id of vs that is below the length of the list
-abbrev pub AreSmall : (vs small : List ℕ) → Type 0
-AreSmall vs small = (k : ℕ) → k < length vs → slice_index vs k < length small → slice_index small (slice_index vs k) ≡ k
-
 -- arcs of these edges, in their order
 pub record AreArcs (vs : List ℕ) (es : List Edge) (arcs : List Arc) (edges : List Edge) : Type 0 where
   pub within : All (λ a. a.source < length vs) arcs

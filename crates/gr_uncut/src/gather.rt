@@ -17,7 +17,8 @@ fn gathered<P: VertexProgram>(program: &P, values: &[P::Value], arcs: &[Arc]) ->
     requires values { All (λ x. IsTrue ((P.program_of program.now).is_value x)) values.now }
     requires sources { All (λ a. a.source < length values.now) arcs.now }
     requires degrees { All (λ a. 0 < a.outdegree) arcs.now }
-    ensures sum { (x : ℕ → P.Value) → Reads x values.now → result ≡ total (P.program_of program.now) (map (brought (P.program_of program.now) x) arcs.now) }
+    ensures sum { (x : ℕ → P.Value) → Reads x values.now
+        → result ≡ total (P.program_of program.now) (map (brought (P.program_of program.now) x) arcs.now) }
     ensures kept { IsTrue ((P.program_of program.now).is_acc result) }
 {
     let mut sum = program.unit();
@@ -42,9 +43,11 @@ pub fn new_values<P: VertexProgram>(
     requires long { length values.now ≡ length vertices.now }
     requires active { All (λ k. k < length vertices.now) active.now }
     requires rows { length index.now.incoming.starts ≡ length vertices.now + 1 }
-    requires sources { (k : ℕ) → k < length vertices.now → All (λ a. a.source < length vertices.now) (arcs_at index.now k) }
+    requires sources { (k : ℕ) → k < length vertices.now
+        → All (λ a. a.source < length vertices.now) (arcs_at index.now k) }
     requires degrees { (k : ℕ) → k < length vertices.now → All (λ a. 0 < a.outdegree) (arcs_at index.now k) }
-    ensures values { IfOk result (λ new. (x : ℕ → P.Value) → Reads x values.now → new ≡ map (applied (P.program_of program.now) (ids vertices.now) index.now x) active.now) }
+    ensures values { IfOk result (λ new. (x : ℕ → P.Value) → Reads x values.now
+        → new ≡ map (applied (P.program_of program.now) (ids vertices.now) index.now x) active.now) }
     ensures kept { IfOk result (λ new. All (λ x. IsTrue ((P.program_of program.now).is_value x)) new) }
     ensures long { IfOk result (λ new. length new ≡ length active.now) }
 {
@@ -62,8 +65,10 @@ pub fn put_values<V: Datum>(values: &mut Items<V>, active: &[u32], new: &[V])
     requires active { All (λ k. k < length values.old) active.now }
     requires long { length new.now ≡ length active.now }
     ensures long { length values.new ≡ length values.old }
-    ensures kept { (t : V → Bool) → All (λ x. IsTrue (t x)) values.old → All (λ x. IsTrue (t x)) new.now → All (λ x. IsTrue (t x)) values.new }
-    ensures values { (x y : ℕ → V) → Reads x values.old → new.now ≡ map y active.now → Reads (λ k. if has active.now k then y k else x k) values.new }
+    ensures kept { (t : V → Bool) → All (λ x. IsTrue (t x)) values.old → All (λ x. IsTrue (t x)) new.now
+        → All (λ x. IsTrue (t x)) values.new }
+    ensures values { (x y : ℕ → V) → Reads x values.old → new.now ≡ map y active.now
+        → Reads (λ k. if has active.now k then y k else x k) values.new }
 {
     for i in 0..active.len() {
         values.set(active[i] as usize, new[i]);

@@ -26,11 +26,14 @@ pub fn round<P: VertexProgram>(
 ) -> Result<Items<u32>, OutOfMemory>
     requires count { length graph.now.vertices ≤ 1048576 }
     requires index { IsIndex graph.now.edges (ids graph.now.vertices) index.now }
-    requires before { Holds (P.program_of program.now) (ids graph.now.vertices) (state_after (P.program_of program.now) graph.now.edges done) values.old active.now }
+    requires before { Holds (P.program_of program.now) (ids graph.now.vertices)
+        (state_after (P.program_of program.now) graph.now.edges done) values.old active.now }
     requires long { length stamps.old ≡ length graph.now.vertices }
     requires stamps { All (λ stamp. stamp ≤ done) stamps.old }
     requires room { done + 1 < 2 ^ 32 }
-    ensures after { IfOk result (λ next. Holds (P.program_of program.now) (ids graph.now.vertices) (state_after (P.program_of program.now) graph.now.edges (done + 1)) values.new next) }
+    ensures after { IfOk result (λ next.
+        Holds (P.program_of program.now) (ids graph.now.vertices)
+        (state_after (P.program_of program.now) graph.now.edges (done + 1)) values.new next) }
     ensures long { OnOk result (length stamps.new ≡ length graph.now.vertices) }
     ensures stamps { OnOk result (All (λ stamp. stamp ≤ done + 1) stamps.new) }
 {

@@ -34,8 +34,10 @@ pub fn plain_rounds<P: VertexProgram>(
 ) -> Result<PlainEnd<P::Value>, OutOfMemory>
     requires edges { length graph.now.edges ≤ 4194304 }
     requires vertices { length graph.now.vertices ≤ 1048576 }
-    ensures last { IfOk result (λ end. end.last ≡ last_round (P.program_of program.now) graph.now.edges (ids graph.now.vertices) limit) }
-    ensures values { IfOk result (λ end. end.values ≡ values_after (P.program_of program.now) graph.now.edges (ids graph.now.vertices) end.last) }
+    ensures last { IfOk result (λ end.
+        end.last ≡ last_round (P.program_of program.now) graph.now.edges (ids graph.now.vertices) limit) }
+    ensures values { IfOk result (λ end. end.values
+        ≡ values_after (P.program_of program.now) graph.now.edges (ids graph.now.vertices) end.last) }
 {
     let index = Index::new(alloc, graph)?;
     let mut values = first_values(alloc, graph, program)?;
@@ -65,7 +67,8 @@ fn first_values<P: VertexProgram>(
     graph: &Graph,
     program: &P,
 ) -> Result<Items<P::Value>, OutOfMemory>
-    ensures first { IfOk result (λ first. first ≡ map (first_state (P.program_of program.now) graph.now.edges).value (ids graph.now.vertices)) }
+    ensures first { IfOk result (λ first.
+        first ≡ map (first_state (P.program_of program.now) graph.now.edges).value (ids graph.now.vertices)) }
     ensures kept { IfOk result (λ first. All (λ x. IsTrue ((P.program_of program.now).is_value x)) first) }
 {
     let _count = graph.vertex_count();
@@ -95,7 +98,8 @@ fn values_of<V: Datum>(
     values: &[V],
 ) -> Result<Items<ValueOf<V>>, OutOfMemory>
     requires { length values.now ≡ length graph.now.vertices }
-    ensures { IfOk result (λ list. (x : ℕ → V) → values.now ≡ map x (ids graph.now.vertices) → list ≡ shown x (ids graph.now.vertices)) }
+    ensures { IfOk result (λ list. (x : ℕ → V) → values.now ≡ map x (ids graph.now.vertices)
+        → list ≡ shown x (ids graph.now.vertices)) }
 {
     let vertices = graph.vertices.as_slice();
     let mut list = Items::new(alloc);

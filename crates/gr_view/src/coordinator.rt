@@ -1,7 +1,10 @@
 ghost use Rattle.std.specs.Prelude.{◌≡◌, ◌+◌, ◌-◌, ◌^◌, ◌<◌, ◌≤◌, ◌&&◌, not, IsTrue, IsNone, ◌↔◌, length};
 ghost use Rattle.gr_base.specs.Rising.{has as is_in, includes as holds_all};
 ghost use Rattle.gr_view.specs.Modes.{is_over, is_failed, is_rebuild, is_open, is_round};
-ghost use Rattle.gr_view.specs.Decisions.{first_coordinator, parties, reported, raised, failed, sent_back, committed, round_committed, rebuild_committed, unready, looked_at, at_barrier, at_recovery, at_repair, at_discard, may_recover};
+ghost use Rattle.gr_view.specs.Decisions.{first_coordinator, parties, reported, raised};
+ghost use Rattle.gr_view.specs.Decisions.{failed, sent_back, committed, round_committed};
+ghost use Rattle.gr_view.specs.Decisions.{rebuild_committed, unready, looked_at, at_barrier};
+ghost use Rattle.gr_view.specs.Decisions.{at_recovery, at_repair, at_discard, may_recover};
 ghost use Rattle.gr_view.specs.Room.{HasRoom};
 ghost use Rattle.gr_view.specs.Answers.{ToldFailed, ToldNotReady, ToldIdle, opens_nothing, tells_loss};
 
@@ -257,8 +260,8 @@ impl Coordinator {
     /// A recovery opens after a failure, with a spare for each place of `rebirth`. `any_lost` tells whether some vertex
     /// has no holder left.
     ///
-    /// `Idle` where it may not open: the mode is not `Failed`, a named place is not dead, or the spares are too few. Else
-    /// `Lost` where a vertex is lost, and then the mode alone changes.
+    /// `Idle` where it may not open: the mode is not `Failed`, a named place is not dead, or the spares are too few.
+    /// Else `Lost` where a vertex is lost, and then the mode alone changes.
     pub fn open_recovery(&mut self, rebirth: PlaceSet, any_lost: bool) -> Opening
         requires epoch { self.old.epoch < 2 ^ 64 - 1 }
 

@@ -12,7 +12,8 @@ use Rattle.gr_batch.specs.declared.body.Body.{Body}
 use Rattle.gr_batch.specs.declared.body.Body.TheVariants as body
 use Rattle.gr_batch.specs.declared.stage.Stage.{Stage}
 use Rattle.gr_batch.specs.declared.stage.Stage.TheVariants as stage
-use Rattle.gr_batch.specs.Stages.{place_in, is_end}
+use Rattle.gr_batch.specs.Stages.{is_end}
+use Rattle.gr_batch.specs.Order.{place_in}
 use Rattle.gr_batch.specs.Bodies.{stage_of_body, is_of}
 use Rattle.gr_sched.specs.declared.event.Event.{Event}
 use Rattle.gr_view.specs.declared.coordinator.Mode.{Mode}

@@ -20,7 +20,7 @@ use Rattle.gr_cluster.specs.Network.{delivered, dropped, crashed}
 use Rattle.gr_cluster.specs.Step.{barred, recovered, repaired, discarded, step}
 use Rattle.gr_cluster.specs.Canonical.{next_canonical}
 use Rattle.gr_cluster.specs.Runs.{next_event, next_position, position_after}
-use Rattle.gr_cluster.specs.GraphIn.{directory_of}
+use Rattle.gr_cluster.specs.Directory.{directory_of}
 use Rattle.gr_cluster.specs.Budget.{is_restored, are_borne, losses_after}
 use Rattle.gr_worked.specs.Played.{job, begin}
 

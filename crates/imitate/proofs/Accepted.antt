@@ -1,7 +1,7 @@
 -- What the readers accept is a plan that the promise is about, and the whole run of such a plan ends as it must.
 use Rattle.std.proofs.Common.{◌≡◌, ℕ, List, Option, Some, None, Result, Ok, Err, refl, subst}
 use Rattle.std.specs.Prelude.{IfOk}
-use Rattle.gr_program.specs.Program.{ProgramLaws}
+use Rattle.gr_program.specs.ProgramLaws.{ProgramLaws}
 use Rattle.gr_edges.specs.declared.fault.GraphFault.{GraphFault}
 use Rattle.gr_edges.specs.Reading as edges
 use Rattle.gr_job.specs.declared.fault.JobFault.{JobFault}

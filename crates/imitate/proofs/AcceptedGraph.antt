@@ -1,7 +1,7 @@
 -- A graph that is accepted is within the limits: its vertices rise and have 32 bits, and its edges end at them.
-use Rattle.std.proofs.Common.{◌≡◌, ◌≤◌, ◌<◌, ◌^◌, ◌+◌, ℕ, zero, suc, List, [], ◌∷◌, Bool, true, false, length, take, map, Option, Some, None, refl, sym, ap, ◌∙◌, subst, arith, inl, inr, lit<, lit≤, ltb-true, ltb-false}
+use Rattle.std.proofs.Common.{◌≡◌, ◌≤◌, ◌<◌, ◌^◌, ◌+◌, ℕ, zero, suc, List, [], ◌∷◌, Bool, length, take, map, Option, Some, None, refl, sym, ap, ◌∙◌, subst, arith, inl, inr, lit<, lit≤, ltb-true, ltb-false}
 use Rattle.std.specs.Prelude.{◌&&◌, nat_lt, slice_get, slice_index_or, IsTrue}
-use Rattle.std.specs.List.{AllByRecursion as Each, filter_map, flat_map, list_all, list_any, range_with_len, slice_split, fold}
+use Rattle.std.specs.List.{AllByRecursion as Each, filter_map, flat_map, list_all, list_any, range_with_len, slice_split}
 use Rattle.std.specs.Option.{option_or}
 use Rattle.std.specs.Ordering.{nat_cmp}
 use Rattle.std.specs.BTreeSet.{insert_key}
@@ -13,16 +13,14 @@ use Rattle.std.proofs.lemmas.List.Elements.{recursion_from_All}
 use Rattle.gr_base.specs.declared.records.Edge as base
 use Rattle.gr_base.specs.Rising.{has}
 use Rattle.gr_base.proofs.Rising.{rises-nil}
-use Rattle.gr_text.specs.Faults.{first_fault_by}
 use Rattle.gr_text.specs.Fields.{fields_of}
 use Rattle.gr_text.specs.Lines.{is_line_end, without_return_of}
-use Rattle.gr_edges.specs.declared.fault.GraphFault.{GraphFault}
 use Rattle.gr_edges.specs.declared.fault.GraphFault.TheVariants.{TooManyEdges, TooManyVertices}
 use Rattle.gr_edges.specs.declared.line.LineFound.{LineFound}
-use Rattle.gr_edges.specs.declared.line.LineFound.TheVariants.{Skipped, Vertex, Edge, TooLarge, Bad}
+use Rattle.gr_edges.specs.declared.line.LineFound.TheVariants.{Skipped, Edge}
 use Rattle.gr_edges.specs.Fields.{number_of, is_comment, is_large, is_bad, of_numbers, of_fields, line_of}
 use Rattle.gr_edges.specs.Reading.{max_edges, max_vertices, lines_of, ids_of_line, joined, edges_of, ids_of, vertices_of, fault_of_line, fault_of_size, fault_at, first_fault}
-use Rattle.gr_edges.specs.Vertices.{ids, vertex_of, HasEnds}
+use Rattle.gr_edges.specs.Vertices.{ids, vertex_of}
 use Rattle.gr_edges.proofs.Degrees.{ids-made}
 use Rattle.gr_edges.proofs.Ends.{ends-stand}
 use Rattle.gr_edges.proofs.Ids.{insert-lt, insert-eq, insert-gt, joined-rises}

@@ -8,7 +8,8 @@ use Rattle.gr_log.specs.Directory.{Entry}
 use Rattle.gr_view.specs.declared.coordinator.Mode.{Mode}
 use Rattle.gr_view.specs.declared.coordinator.Mode.TheVariants as mode
 use Rattle.gr_cluster.specs.Tables.{Cluster}
-use Rattle.gr_cluster.specs.GraphIn.{Degrees, LoggedGraph, graph_of, graph_in, directory_of}
+use Rattle.gr_cluster.specs.GraphIn.{Degrees, LoggedGraph, graph_of, graph_in}
+use Rattle.gr_cluster.specs.Directory.{directory_of}
 use Rattle.gr_cluster.specs.Budget.{IsWithinBudget}
 use Rattle.gr_cluster.specs.Ending as cluster
 use Rattle.gr_report.specs.Endings.{lost_text}

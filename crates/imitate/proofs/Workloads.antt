@@ -1,5 +1,5 @@
 -- The run of generated input: it is always done, with the rounds and the distances of the graph that is not cut.
-use Rattle.std.proofs.Common.{◌≡◌, ◌≤◌, ◌<◌, ◌+◌, ◌/◌, ◌^◌, ◌%◌, ℕ, List, [], ◌∷◌, length, take, get_or, map, min, true, Result, Ok, Err, refl, sym, ap, ◌∙◌, subst, arith, inl, inr, lit<, lit≤, lt-ltb}
+use Rattle.std.proofs.Common.{◌≡◌, ◌≤◌, ◌<◌, ◌+◌, ◌^◌, ◌%◌, ℕ, List, [], ◌∷◌, length, take, get_or, map, min, true, Result, Ok, Err, refl, sym, ap, ◌∙◌, subst, arith, inl, inr, lit<, lit≤, lt-ltb}
 use Rattle.std.specs.Prelude.{IsTrue, IfOk, nat_lt, sum_by}
 use Rattle.std.specs.List.{All}
 use Rattle.std.proofs.Math.Nat.{mod-lt}

@@ -1,7 +1,7 @@
 -- What is promised of the whole run of files that the readers accept.
 use Rattle.std.specs.Prelude.{◌≡◌, ℕ, List, Ok}
 use Rattle.std.specs.List.{AllByRecursion as Each}
-use Rattle.gr_program.specs.Program.{ProgramLaws}
+use Rattle.gr_program.specs.ProgramLaws.{ProgramLaws}
 use Rattle.gr_agree.specs.Accepted.{IsGraph, IsSetting, NamesPlacesAt}
 use Rattle.gr_agree.specs.Headline.{EndsAsItMust}
 use Rattle.imitate.specs.Reading.{Plan, plan_of}

@@ -1,7 +1,10 @@
+pub mod Accepted
 pub mod Behaviour
 pub mod Chosen
+pub mod Commands
 pub mod Contents
 pub mod Headline
+pub mod LoadCauses
 pub mod Loading
 pub mod Losses
 pub mod Outcome

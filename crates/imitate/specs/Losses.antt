@@ -5,9 +5,9 @@ use Rattle.gr_base.specs.Rising.{includes}
 use Rattle.gr_outside.specs.Files.{FilesTold}
 use Rattle.gr_outside.specs.Sink.{SinkSeen, Gains}
 use Rattle.gr_cluster.specs.Tables.{Cluster}
-use Rattle.gr_cluster.specs.GraphIn.{directory_of}
+use Rattle.gr_cluster.specs.Directory.{directory_of}
 use Rattle.gr_cluster.specs.Budget.{IsWithinBudget}
-use Rattle.gr_law_runs.specs.Crashes.{crash_lines}
+use Rattle.gr_law_runs.specs.CrashLines.{crash_lines}
 use Rattle.gr_report.specs.Endings.{lost_text, unfinished_text}
 use Rattle.imitate.specs.Words.{FileNames, Asked}
 use Rattle.imitate.specs.Reading.{Plan}

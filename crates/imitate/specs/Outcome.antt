@@ -15,7 +15,7 @@ use Rattle.imitate.specs.Reading.{Plan, reply_of, plan_of}
 use Rattle.imitate.specs.Running.{IsWholeAfter, run_trace, run_end, run_text}
 use Rattle.imitate.specs.Refusals.{NamesInput}
 use Rattle.imitate.specs.Contents.{KeepsFiles, GainsPart}
-use Rattle.imitate.specs.Loading.{IsLoadCause}
+use Rattle.imitate.specs.LoadCauses.{IsLoadCause}
 use Rattle.imitate.specs.Workload.{IsSummary}
 
 -- what files say, where each of them is there

@@ -1,18 +1,15 @@
 -- What the bytes of a graph, a job and a schedule say, or why one of them is refused.
-use Rattle.std.specs.Prelude.{ℕ, ◌<◌, ◌≤◌, ◌^◌, IsTrue, List, length, Option, Some, None, Result, Ok, Err}
-use Rattle.std.specs.List.{All, AllByRecursion as Each}
+use Rattle.std.specs.Prelude.{ℕ, List, Option, Some, None, Result, Ok, Err}
 use Rattle.gr_base.specs.declared.records.Edge.{Edge}
 use Rattle.gr_edges.specs.declared.fault.GraphFault.{GraphFault}
 use Rattle.gr_edges.specs.Reading as edges
 use Rattle.gr_edges.specs.Vertices.{ids}
 use Rattle.gr_job.specs.declared.fault.JobFault.{JobFault}
-use Rattle.gr_job.specs.Job.{JobValues, values_of, job_of}
+use Rattle.gr_job.specs.Job.{JobValues, job_of}
 use Rattle.gr_sched.specs.declared.fault.SchedFault.{SchedFault}
 use Rattle.gr_sched.specs.declared.line.LineFound.{LineFound}
 use Rattle.gr_sched.specs.declared.event.Line.{Line}
 use Rattle.gr_sched.specs.Reading as sched
-use Rattle.imitate.specs.declared.reading.Work.{Work}
-use Rattle.imitate.specs.declared.reading.Accepted.{Accepted}
 use Rattle.imitate.specs.declared.refusal.Refusal.{Refusal}
 use Rattle.imitate.specs.Refusals.{graph_refusal, job_refusal, schedule_refusal}
 use Rattle.imitate.specs.Chosen.{chosen_text}
@@ -68,18 +65,3 @@ result_or_refusal (Ok task) = Ok (result_of task)
 -- the result text of a graph and a job, or why one of them is refused
 unfoldable pub reply_of : List ℕ → List ℕ → Result (List ℕ) Refusal
 reply_of graph job = result_or_refusal (task_of graph job)
-
--- what was read
-abbrev pub task_in : Work → Task
-task_in work = record { job = values_of work.job; edges = work.graph.edges; vertices = ids work.graph.vertices }
-
-abbrev pub plan_in : Accepted → Plan
-plan_in a = record { task = task_in a.work; lines = a.lines }
-
--- what a cluster needs of what was read: ids of 32 bits, graph and schedule within their limits, and lines for its places
-pub record IsPlayable (a : Accepted) : Type 0 where
-  pub ids_fit : Each (λ v. v < 2 ^ 32) (ids a.work.graph.vertices)
-  pub few_edges : length a.work.graph.edges ≤ edges.max_edges
-  pub few_vertices : length a.work.graph.vertices ≤ edges.max_vertices
-  pub few_lines : length a.lines ≤ sched.max_events
-  pub placed : All (λ l. IsTrue (sched.are_below a.work.job.places (sched.places_of l))) a.lines

@@ -1,5 +1,5 @@
 -- Why a command line is refused: the status and the text of each cause.
-use Rattle.std.specs.Prelude.{ℕ, ◌≡◌, List, ◌++◌, codes, decimal}
+use Rattle.std.specs.Prelude.{ℕ, List, ◌++◌, codes, decimal}
 use Rattle.gr_edges.specs.declared.fault.GraphFault.{GraphFault}
 use Rattle.gr_edges.specs.declared.fault.GraphFault.TheVariants as graph
 use Rattle.gr_job.specs.declared.fault.JobFault.{JobFault}
@@ -77,12 +77,6 @@ abbrev pub NamesInput : Asked → Input → Type 0
 NamesInput (Asked.Plain names) input.Schedule = ⊥
 NamesInput (Asked.Load seed size) input = ⊥
 NamesInput asked other = Unit {0}
-
--- where a refusal is of an input that was not loaded, it is of this one
-abbrev pub IsOfInput : Input → Refusal → Type 0
-IsOfInput input (refusal.Unreadable which) = which ≡ input
-IsOfInput input (refusal.TooLong which) = which ≡ input
-IsOfInput input other = Unit {0}
 
 -- the name of an input
 abbrev pub name_of : FileNames → Input → List ℕ

@@ -1,13 +1,10 @@
 -- The words of a command line.
-use Rattle.std.specs.Prelude.{ℕ, ◌≤◌, ◌&&◌, nat_lt, nat_le, List, [], ◌∷◌, length, Option, Some, None, option_map, codes, if◌then◌else◌}
+use Rattle.std.specs.Prelude.{ℕ, ◌&&◌, nat_lt, nat_le, List, [], ◌∷◌, length, Option, Some, None, option_map, codes, if◌then◌else◌}
 use Rattle.std.specs.List.{list_all}
 use Rattle.std.specs.Option.{option_or, option_zip}
 use Rattle.std.specs.Char.{is_ascii_digit}
 use Rattle.std.specs.Str.{bytes_eq}
 use Rattle.std.specs.Str.Parse.{digits_value}
-use Rattle.imitate.specs.declared.command.Names.{Names}
-use Rattle.imitate.specs.declared.command.Command.{Command}
-use Rattle.imitate.specs.declared.command.Command.TheVariants as command
 
 -- the files that words name; `plain` names no schedule and no trace
 pub record FileNames : Type 0 where
@@ -62,17 +59,3 @@ abbrev pub names_in : Asked → FileNames
 names_in (Asked.Plain names) = names
 names_in (Asked.Run names) = names
 names_in (Asked.Load seed size) = nobody
-
--- the names and the request that a command holds
-abbrev pub named : Names → FileNames
-named n = record { graph = n.graph.now; job = n.job.now; schedule = n.schedule.now; trace = n.trace.now }
-
-abbrev pub asked_by : Command → Asked
-asked_by (command.Plain n) = Asked.Plain (named n)
-asked_by (command.Run n) = Asked.Run (named n)
-asked_by (command.Load seed size) = Asked.Load seed size
-
--- a size that is asked for is within its range
-abbrev pub IsInRange : Command → Type 0
-IsInRange (command.Load seed size) = size ≤ max_size
-IsInRange other = Unit {0}

@@ -5,7 +5,7 @@ use Rattle.gr_program.specs.Rounds.{last_round}
 use Rattle.gr_program.specs.Result.{values_after}
 use Rattle.gr_job.specs.Job.{JobValues}
 use Rattle.gr_job.specs.declared.job.ProgramChoice.TheVariants as choice
-use Rattle.gr_sched.specs.Text.{word}
+use Rattle.gr_sched.specs.Words.{word}
 use Rattle.gr_gen.specs.Generated.{vertex_count, vertices_below, edges_of, schedule_of}
 use Rattle.gr_sum.specs.Infinity.{infinity, capped}
 use Rattle.gr_min.specs.declared.distance.Distance.{Distance}

@@ -1,4 +1,4 @@
-ghost use Rattle.imitate.specs.Words.{asked_by, IsInRange};
+ghost use Rattle.imitate.specs.Commands.{asked_by, IsInRange};
 ghost use Rattle.imitate.specs.Outcome.{Answers};
 
 use crate::command::Command;
@@ -18,7 +18,8 @@ pub fn answer<F: Files, O: Sink>(
     out: &mut O,
 ) -> Result<Ended, Refusal>
     requires { IsInRange command }
-    ensures { Answers (F.seen files.old) (F.seen files.new) (O.seen out.old) (O.seen out.new) (asked_by command.entry) result }
+    ensures { Answers (F.seen files.old) (F.seen files.new) (O.seen out.old) (O.seen out.new)
+        (asked_by command.entry) result }
 {
     match command {
         Command::Plain(names) => plain(alloc, names, files, out),

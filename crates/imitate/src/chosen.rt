@@ -22,7 +22,8 @@ fn shown<P: VertexProgram>(
 ) -> Result<Vec<u8>, OutOfMemory>
     requires edges { length graph.now.edges ≤ 4194304 }
     requires vertices { length graph.now.vertices ≤ 1048576 }
-    ensures { IfOk result (λ text. text.items ≡ result_text (P.program_of program) P.Value.text_of graph.now.edges (ids graph.now.vertices) limit) }
+    ensures { IfOk result (λ text. text.items
+        ≡ result_text (P.program_of program) P.Value.text_of graph.now.edges (ids graph.now.vertices) limit) }
 {
     let end = plain_rounds(alloc, graph, &program, limit)?;
     let mut text = Vec::new(alloc);

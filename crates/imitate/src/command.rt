@@ -1,6 +1,7 @@
 ghost use Rattle.std.specs.Prelude.{◌≡◌, ◌≤◌, map, None, Some, IfSome, IsNone};
 ghost use Rattle.std.specs.Option.{option_zip};
-ghost use Rattle.imitate.specs.Words.{plain_of, run_of, load_of, number_in, max_size, asked_of, asked_by, named, names_in, nobody, IsInRange};
+ghost use Rattle.imitate.specs.Words.{plain_of, run_of, load_of, number_in, max_size, asked_of, names_in, nobody};
+ghost use Rattle.imitate.specs.Commands.{asked_by, named, IsInRange};
 
 use gr_base::{Numeral, number};
 

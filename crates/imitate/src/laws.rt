@@ -1,8 +1,8 @@
 ghost use Rattle.imitate.specs.Headline.{AcceptedIsRunnable, AcceptedRunsEndAsTheyMust};
 ghost use Rattle.imitate.specs.Workload.{WorkloadIsDone};
 
-/// Whatever bytes the readers accept as a graph, a job and a schedule, they say a lawful program, a job and a graph within
-/// their limits, and lines that name sets of places.
+/// Whatever bytes the readers accept as a graph, a job and a schedule, they say a lawful program, a job and a graph
+/// within their limits, and lines that name sets of places.
 pub fn accepted_is_runnable()
     ensures { AcceptedIsRunnable }
 {}

@@ -1,6 +1,6 @@
 ghost use Rattle.std.specs.Prelude.{◌≡◌, ◌<◌, ◌≤◌, ◌⊎◌, Some, length, IfOk, IfErr, IfSome, OnOk};
 ghost use Rattle.gr_outside.specs.Files.{longest, bytes_of};
-ghost use Rattle.imitate.specs.Words.{named};
+ghost use Rattle.imitate.specs.Commands.{named};
 ghost use Rattle.imitate.specs.Loading.{LoadsInput};
 
 use crate::command::Names;

@@ -1,5 +1,6 @@
 ghost use Rattle.std.specs.Prelude.{◌≡◌, length};
-ghost use Rattle.imitate.specs.Words.{Asked, named};
+ghost use Rattle.imitate.specs.Words.{Asked};
+ghost use Rattle.imitate.specs.Commands.{named};
 ghost use Rattle.imitate.specs.Outcome.{Answers};
 
 use crate::command::Names;
@@ -17,7 +18,8 @@ pub fn plain<F: Files, O: Sink>(
     files: &mut F,
     out: &mut O,
 ) -> Result<Ended, Refusal>
-    ensures { Answers (F.seen files.old) (F.seen files.new) (O.seen out.old) (O.seen out.new) (Asked.Plain (named names.entry)) result }
+    ensures { Answers (F.seen files.old) (F.seen files.new) (O.seen out.old) (O.seen out.new)
+        (Asked.Plain (named names.entry)) result }
 {
     let graph = match load(alloc, files, names, Input::Graph) {
         Ok(graph) => graph,
@@ -27,7 +29,7 @@ pub fn plain<F: Files, O: Sink>(
         Ok(job) => job,
         Err(why) => return Err(why),
     };
-    let text = match reply(alloc, &graph, &job) {
+    let text = match reply(alloc, graph, &job) {
         Ok(text) => text,
         Err(why) => return Err(why),
     };

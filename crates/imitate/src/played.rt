@@ -4,7 +4,7 @@ ghost use Rattle.gr_cluster.specs.Load.{load};
 ghost use Rattle.gr_core.specs.Loaded.{setting_of};
 ghost use Rattle.gr_play.specs.Playing.{start};
 ghost use Rattle.imitate.specs.Chosen.{chosen, chosen_of};
-ghost use Rattle.imitate.specs.Reading.{IsPlayable, plan_in};
+ghost use Rattle.imitate.specs.Accepted.{IsPlayable, plan_in};
 ghost use Rattle.imitate.specs.Running.{program_in, begin};
 ghost use Rattle.imitate.specs.Playing.{PlaysRun};
 
@@ -24,12 +24,13 @@ use std::alloc::Global;
 /// Plays the schedule that was accepted, with its trace, on a cluster that runs the job's program.
 pub fn play_plan<F: Files>(
     alloc: Global,
-    accepted: &Accepted,
+    accepted: Accepted,
     files: &mut F,
     trace: &str,
 ) -> Result<Told, Refusal>
-    requires { IsPlayable accepted.now }
-    ensures { PlaysRun (F.seen files.old) (F.seen files.new) trace.now (program_in (plan_in accepted.now)) (begin (plan_in accepted.now)) result }
+    requires { IsPlayable accepted }
+    ensures { PlaysRun (F.seen files.old) (F.seen files.new) trace.now (program_in (plan_in accepted))
+        (begin (plan_in accepted)) result }
 {
     let program = copied(alloc, &accepted.work.job.program)?;
     play_chosen(alloc, accepted, program, files, trace)
@@ -55,13 +56,15 @@ fn copied(alloc: Global, program: &ProgramChoice) -> Result<ProgramChoice, OutOf
 
 fn play_chosen<F: Files>(
     alloc: Global,
-    accepted: &Accepted,
+    accepted: Accepted,
     program: ProgramChoice,
     files: &mut F,
     trace: &str,
 ) -> Result<Told, Refusal>
-    requires { IsPlayable accepted.now }
-    ensures { PlaysRun (F.seen files.old) (F.seen files.new) trace.now (chosen_of program) (start (load (chosen_of program).program (setting_of accepted.now.work.job) accepted.now.work.graph.edges (ids accepted.now.work.graph.vertices)) accepted.now.lines) result }
+    requires { IsPlayable accepted }
+    ensures { PlaysRun (F.seen files.old) (F.seen files.new) trace.now (chosen_of program)
+        (start (load (chosen_of program).program (setting_of accepted.work.job) accepted.work.graph.edges
+        (ids accepted.work.graph.vertices)) accepted.lines) result }
 {
     match program {
         ProgramChoice::Shortest(source) => {
@@ -80,27 +83,31 @@ fn play_chosen<F: Files>(
     }
 }
 
-// Loads the cluster of a program, and plays the schedule on it.
+// Loads the cluster of a program, drops the graph, and plays the schedule on it.
 fn play_program<P: VertexProgram, F: Files>(
     alloc: Global,
-    accepted: &Accepted,
+    accepted: Accepted,
     program: P,
     files: &mut F,
     trace: &str,
 ) -> Result<Told, Refusal>
-    requires { IsPlayable accepted.now }
-    ensures { PlaysRun (F.seen files.old) (F.seen files.new) trace.now (chosen (P.program_of program) P.Value.text_of P.Value.numbers_of P.Acc.numbers_of) (start (load (P.program_of program) (setting_of accepted.now.work.job) accepted.now.work.graph.edges (ids accepted.now.work.graph.vertices)) accepted.now.lines) result }
+    requires { IsPlayable accepted }
+    ensures { PlaysRun (F.seen files.old) (F.seen files.new) trace.now
+        (chosen (P.program_of program) P.Value.text_of P.Value.numbers_of P.Acc.numbers_of)
+        (start (load (P.program_of program) (setting_of accepted.work.job) accepted.work.graph.edges
+        (ids accepted.work.graph.vertices)) accepted.lines) result }
 {
-    let work = &accepted.work;
+    let Accepted { work, lines } = accepted;
     let mut cluster = match Cluster::load(alloc, &work.graph, &work.job, program) {
         Ok(cluster) => cluster,
         Err(OutOfMemory) => return Err(Refusal::OutOfMemory),
     };
+    drop(work);
     let mut steps = 0;
     let ending = play(
         alloc,
         &mut cluster,
-        accepted.lines.as_slice(),
+        lines.as_slice(),
         files,
         Some(trace),
         &mut steps,

@@ -1,7 +1,8 @@
 ghost use Rattle.std.specs.Prelude.{◌≡◌, ◌<◌, ◌≤◌, ◌^◌, ◌⊎◌, Ok, Err, length, IfOk, IfErr};
 ghost use Rattle.std.specs.List.{AllByRecursion as Each};
 ghost use Rattle.gr_edges.specs.Vertices.{ids};
-ghost use Rattle.imitate.specs.Reading.{task_of, plan_of, task_in, plan_in, IsPlayable};
+ghost use Rattle.imitate.specs.Reading.{task_of, plan_of};
+ghost use Rattle.imitate.specs.Accepted.{task_in, plan_in, IsPlayable};
 
 use crate::refusal::{Refusal, of_graph, of_job, of_schedule};
 use gr_base::Items;
@@ -55,7 +56,8 @@ pub fn read_plan(
     requires schedule { length schedule.now ≤ 268435456 }
     ensures read { IfOk result (λ a. plan_of graph.now job.now schedule.now ≡ Ok (plan_in a)) }
     ensures playable { IfOk result IsPlayable }
-    ensures refused { IfErr result (λ why. (why ≡ Refusal.OutOfMemory) ⊎ (plan_of graph.now job.now schedule.now ≡ Err why)) }
+    ensures refused { IfErr result (λ why. (why ≡ Refusal.OutOfMemory)
+        ⊎ (plan_of graph.now job.now schedule.now ≡ Err why)) }
 {
     let work = match read_work(alloc, graph, job) {
         Ok(work) => work,

@@ -1,6 +1,7 @@
 ghost use Rattle.std.specs.Prelude.{◌≡◌, ◌++◌, codes, decimal, IfOk};
-ghost use Rattle.imitate.specs.Words.{named};
-ghost use Rattle.imitate.specs.Refusals.{status_of, graph_refusal, job_refusal, schedule_refusal, name_of, line_of, graph_text, graph_line, job_text, schedule_text, schedule_line};
+ghost use Rattle.imitate.specs.Commands.{named};
+ghost use Rattle.imitate.specs.Refusals.{status_of, graph_refusal, job_refusal, schedule_refusal, name_of, line_of};
+ghost use Rattle.imitate.specs.Refusals.{graph_text, graph_line, job_text, schedule_text, schedule_line};
 
 use crate::command::Names;
 use gr_base::{OutOfMemory, push_number};

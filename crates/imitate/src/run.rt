@@ -1,4 +1,5 @@
-ghost use Rattle.imitate.specs.Words.{Asked, named};
+ghost use Rattle.imitate.specs.Words.{Asked};
+ghost use Rattle.imitate.specs.Commands.{named};
 ghost use Rattle.imitate.specs.Outcome.{Answers};
 
 use crate::command::Names;
@@ -17,7 +18,8 @@ pub fn run<F: Files, O: Sink>(
     files: &mut F,
     out: &mut O,
 ) -> Result<Ended, Refusal>
-    ensures { Answers (F.seen files.old) (F.seen files.new) (O.seen out.old) (O.seen out.new) (Asked.Run (named names.entry)) result }
+    ensures { Answers (F.seen files.old) (F.seen files.new) (O.seen out.old) (O.seen out.new)
+        (Asked.Run (named names.entry)) result }
 {
     let inputs = match load_inputs(alloc, files, names) {
         Ok(inputs) => inputs,
@@ -27,7 +29,8 @@ pub fn run<F: Files, O: Sink>(
         Ok(accepted) => accepted,
         Err(why) => return Err(why),
     };
-    let told = match play_plan(alloc, &accepted, files, names.trace) {
+    drop(inputs);
+    let told = match play_plan(alloc, accepted, files, names.trace) {
         Ok(told) => told,
         Err(why) => return Err(why),
     };

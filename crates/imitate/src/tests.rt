@@ -31,7 +31,8 @@ struct Left {
     files: MemoryFiles,
 }
 
-// Runs the program over the files `g`, `j` and `s`. One call of the files fails, and one of the output, by their numbers.
+// Runs the program over the files `g`, `j` and `s`. One call of the files fails, and one of the output, by their
+// numbers.
 fn run_program(
     alloc: Global,
     words: &[&str],

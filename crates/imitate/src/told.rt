@@ -29,8 +29,10 @@ pub fn tell<P: VertexProgram>(
     ending: &Ending,
 ) -> Result<Told, Refusal>
     requires { IfSome (told_by ending.now) (λ e. e ≡ ending_of cluster.now.cluster) }
-    ensures ended { IfOk result (λ told. IsTold P.Value.text_of cluster.now.cluster (told_by ending.now) told.ended told.text.items) }
-    ensures failed { IfErr result (λ why. (why ≡ Refusal.OutOfMemory) ⊎ ((why ≡ Refusal.Trace) × (ending.now ≡ Ending.TraceFault))) }
+    ensures ended { IfOk result (λ told. IsTold P.Value.text_of cluster.now.cluster
+        (told_by ending.now) told.ended told.text.items) }
+    ensures failed { IfErr result (λ why. (why ≡ Refusal.OutOfMemory)
+        ⊎ ((why ≡ Refusal.Trace) × (ending.now ≡ Ending.TraceFault))) }
 {
     match ending {
         Ending::Done => {
@@ -62,7 +64,8 @@ pub fn tell<P: VertexProgram>(
 // The text of a run that is done.
 fn results<P: VertexProgram>(alloc: Global, cluster: &Cluster<P>) -> Result<Vec<u8>, OutOfMemory>
     requires { cluster.now.cluster.coordinator.mode ≡ mode.Done }
-    ensures { IfOk result (λ text. text.items ≡ done_text P.Value.text_of cluster.now.cluster.coordinator.round (results_of cluster.now.cluster)) }
+    ensures { IfOk result (λ text. text.items
+        ≡ done_text P.Value.text_of cluster.now.cluster.coordinator.round (results_of cluster.now.cluster)) }
 {
     let values = cluster.results()?;
     let mut text = Vec::new(alloc);

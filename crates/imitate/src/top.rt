@@ -1,7 +1,7 @@
 ghost use Rattle.std.specs.Prelude.{◌≡◌, ◌≢◌, ◌⊎◌, map};
 ghost use Rattle.gr_outside.specs.Causes.{Rose};
 ghost use Rattle.gr_outside.specs.Sink.{Gains};
-ghost use Rattle.imitate.specs.Words.{named};
+ghost use Rattle.imitate.specs.Commands.{named};
 ghost use Rattle.imitate.specs.Refusals.{line_of, status_of};
 ghost use Rattle.imitate.specs.Contents.{GainsPart};
 ghost use Rattle.imitate.specs.Behaviour.{IsAnswered, IsCaused, LeavesBehind};
@@ -12,8 +12,8 @@ use crate::refusal::{Refusal, line, status};
 use gr_outside::{Files, Sink, SinkFault, write_whole};
 use std::alloc::Global;
 
-/// The program over the words after its name, with its files, its output and its messages. The answer is the status that
-/// it ends with:
+/// The program over the words after its name, with its files, its output and its messages. The answer is the status
+/// that it ends with:
 ///
 /// - 0: the run is done, and the result text is on the output.
 /// - 1: memory ran out.
@@ -33,9 +33,12 @@ pub fn imitate<F: Files, O: Sink, E: Sink>(
     out: &mut O,
     err: &mut E,
 ) -> u8
-    ensures answered { IsAnswered (F.seen files.old) (F.seen files.new) (O.seen out.old) (O.seen out.new) (E.seen err.old) (E.seen err.new) (map (λ w. w.now) words.now) result }
-    ensures caused { IsCaused (F.seen files.old) (F.seen files.new) (O.seen out.old) (O.seen out.new) (E.seen err.old) (E.seen err.new) (map (λ w. w.now) words.now) result }
-    ensures left { LeavesBehind (F.seen files.old) (F.seen files.new) (O.seen out.old) (O.seen out.new) (E.seen err.old) (E.seen err.new) (map (λ w. w.now) words.now) result }
+    ensures answered { IsAnswered (F.seen files.old) (F.seen files.new) (O.seen out.old) (O.seen out.new)
+        (E.seen err.old) (E.seen err.new) (map (λ w. w.now) words.now) result }
+    ensures caused { IsCaused (F.seen files.old) (F.seen files.new) (O.seen out.old) (O.seen out.new) (E.seen err.old)
+        (E.seen err.new) (map (λ w. w.now) words.now) result }
+    ensures left { LeavesBehind (F.seen files.old) (F.seen files.new) (O.seen out.old) (O.seen out.new) (E.seen err.old)
+        (E.seen err.new) (map (λ w. w.now) words.now) result }
 {
     let Some(command) = read_command(words) else {
         return say(alloc, &Refusal::Usage, Names::none(), err);
@@ -50,7 +53,8 @@ pub fn imitate<F: Files, O: Sink, E: Sink>(
 fn say<E: Sink>(alloc: Global, refusal: &Refusal, names: Names, err: &mut E) -> u8
     ensures status { (result ≡ status_of refusal.now) ⊎ (result ≡ 1) }
     ensures part { GainsPart (E.seen err.old) (E.seen err.new) (line_of (named names.entry) refusal.now) }
-    ensures whole { result ≢ 1 → Gains (E.seen err.old) (E.seen err.new) (line_of (named names.entry) refusal.now) ⊎ Rose (E.seen err.old).faults (E.seen err.new).faults }
+    ensures whole { result ≢ 1 → Gains (E.seen err.old) (E.seen err.new) (line_of (named names.entry) refusal.now)
+        ⊎ Rose (E.seen err.old).faults (E.seen err.new).faults }
 {
     let Ok(text) = line(alloc, refusal, names) else {
         return 1;

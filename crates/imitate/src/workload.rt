@@ -1,6 +1,6 @@
 ghost use Rattle.std.specs.Prelude.{◌≡◌, ◌≤◌, ◌++◌, IfOk, OnOk};
-ghost use Rattle.gr_job.specs.Job.{values_of};
-ghost use Rattle.gr_sched.specs.Text.{word};
+ghost use Rattle.gr_job.specs.Values.{values_of};
+ghost use Rattle.gr_sched.specs.Words.{word};
 ghost use Rattle.gr_view.specs.declared.coordinator.Mode.TheVariants as mode;
 ghost use Rattle.gr_cluster.specs.Ending.{results_of};
 ghost use Rattle.imitate.specs.Words.{Asked, max_size};
@@ -28,7 +28,8 @@ pub fn workload<F: Files, O: Sink>(
     out: &mut O,
 ) -> Result<Ended, Refusal>
     requires { size ≤ max_size }
-    ensures { Answers (F.seen files.old) (F.seen files.new) (O.seen out.old) (O.seen out.new) (Asked.Load seed size) result }
+    ensures { Answers (F.seen files.old) (F.seen files.new) (O.seen out.old) (O.seen out.new)
+        (Asked.Load seed size) result }
 {
     let text = match summary(alloc, seed, size, files) {
         Ok(text) => text,
@@ -98,7 +99,9 @@ fn line(
     events: u64,
 ) -> Result<Vec<u8>, OutOfMemory>
     requires { cluster.now.cluster.coordinator.mode ≡ mode.Done }
-    ensures { IfOk result (λ text. text.items ≡ summary_text seed size cluster.now.cluster.coordinator.round events (sum_of (results_of cluster.now.cluster))) }
+    ensures { IfOk result (λ text. text.items
+        ≡ summary_text seed size cluster.now.cluster.coordinator.round events
+        (sum_of (results_of cluster.now.cluster))) }
 {
     let values = cluster.results()?;
     let total = total(values.as_slice());

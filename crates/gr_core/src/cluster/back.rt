@@ -1,5 +1,4 @@
 ghost use Rattle.std.specs.Prelude.{◌≡◌, ◌≤◌, length, None};
-ghost use Rattle.gr_base.specs.Rising.{without as places_without};
 ghost use Rattle.gr_log.specs.Log.{cut_log};
 ghost use Rattle.gr_cluster.specs.Tables.{changed_at};
 
@@ -8,19 +7,6 @@ use crate::host::Host;
 use gr_base::PlaceSet;
 use gr_log::EdgeLog;
 use gr_program::VertexProgram;
-
-// The reborn places that are not down.
-pub(crate) fn going_back(reborn: PlaceSet, down: PlaceSet) -> PlaceSet
-    ensures { result ≡ places_without reborn down }
-{
-    let mut back = reborn;
-    for p in 0..64u8 {
-        if down.has(p) {
-            back = back.without(p);
-        }
-    }
-    back
-}
 
 // The hosts of some places go back to the spares, and only the committed logs of the places stay.
 pub(crate) fn send_back<P: VertexProgram>(

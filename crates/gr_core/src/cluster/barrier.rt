@@ -12,7 +12,7 @@ ghost use Rattle.gr_cluster.specs.Step.{step};
 ghost use Rattle.gr_core.specs.Decided.{told_of, hosts_after, logs_after};
 
 use crate::cluster::Cluster;
-use crate::cluster::back::{going_back, send_back};
+use crate::cluster::back::send_back;
 use crate::host::Host;
 use crate::turn::is_rebuild;
 use gr_base::PlaceSet;
@@ -27,14 +27,16 @@ impl<P: VertexProgram> Cluster<P> {
         requires going { is_over self.old.cluster.coordinator.mode ≡ false }
         requires epoch { self.old.cluster.coordinator.epoch < 2 ^ 64 - 1 }
         requires commits { self.old.cluster.coordinator.commits < 2 ^ 64 - 1 }
-        ensures step { (self.new.cluster, result) ≡ step (P.program_of self.old.program) self.old.cluster event.Barrier }
+        ensures step { (self.new.cluster, result)
+            ≡ step (P.program_of self.old.program) self.old.cluster event.Barrier }
         ensures program { self.new.program ≡ self.old.program }
     {
         // A look at the limit tells that it has 32 bits; until the run is over the committed rounds are below it.
         let _limit = self.coordinator.limit;
         let before = self.coordinator;
         let down = self.down_among(looked_at(&before));
-        self.kept = None;
+        self.kept.forget_all();
+        self.resting = PlaceSet::none();
         self.retired = None;
         let verdict = self.coordinator.barrier(down);
         carry_out(&mut self.hosts, &mut self.logs, &before, down, verdict)
@@ -51,8 +53,8 @@ fn looked_at(coordinator: &Coordinator) -> PlaceSet
     }
 }
 
-// What a verdict makes of the hosts and the logs, by the coordinator before it and the places that are down, and what it
-// tells. After a failure the hosts of reborn places go back; a rebuild's commit commits the logs of the parties.
+// What a verdict makes of the hosts and the logs, by the coordinator before it and the places that are down, and what
+// it tells. After a failure the hosts of reborn places go back; a rebuild's commit commits the logs of the parties.
 fn carry_out<P: VertexProgram>(
     hosts: &mut Vec<Option<Host<P>>>,
     logs: &mut Vec<EdgeLog>,
@@ -62,14 +64,15 @@ fn carry_out<P: VertexProgram>(
 ) -> Outcome<P::Value, P::Acc>
     requires few_hosts { length hosts.old.items ≤ 64 }
     requires few_logs { length logs.old.items ≤ 64 }
-    requires whole { (n r d p : ℕ) → verdict ≡ decided.Committed n r d → IsTrue (is_rebuild before.now.mode) → IsTrue (is_in (parties before.now) p) → (log_at logs.old.items p).torn ≡ [] }
+    requires whole { (n r d p : ℕ) → verdict ≡ decided.Committed n r d → IsTrue (is_rebuild before.now.mode)
+        → IsTrue (is_in (parties before.now) p) → (log_at logs.old.items p).torn ≡ [] }
     ensures hosts { hosts.new.items ≡ hosts_after before.now down verdict hosts.old.items }
     ensures logs { logs.new.items ≡ logs_after before.now down verdict logs.old.items }
     ensures outcome { result ≡ told_of verdict }
 {
     match verdict {
         Verdict::Failed(places) => {
-            send_back(hosts, logs, going_back(before.reborn, down));
+            send_back(hosts, logs, before.reborn.difference(down));
             Outcome::Failed(places)
         }
         Verdict::Committed(commits, rounds, due) => {

@@ -1,4 +1,7 @@
-ghost use Rattle.std.specs.Prelude.{◌≡◌, ◌<◌, false, Some};
+ghost use Rattle.std.specs.Prelude.{◌≡◌, ◌≢◌, ◌<◌, ℕ, true, false, Some};
+ghost use Rattle.std.specs.List.{find};
+ghost use Rattle.gr_base.specs.Places.{below};
+ghost use Rattle.gr_base.specs.Rising.{has};
 ghost use Rattle.gr_rules.specs.Todo.{is_act};
 ghost use Rattle.gr_round.specs.Todo.{todo_of};
 ghost use Rattle.gr_cluster.specs.Tables.{Host as Held, host};
@@ -8,10 +11,50 @@ ghost use Rattle.gr_core.specs.Steps.{next_of};
 use crate::cluster::Cluster;
 use crate::host::Host;
 use crate::turn::{Turn, is_over};
+use gr_base::PlaceSet;
 use gr_program::VertexProgram;
 use gr_round::{RoundView, Step};
 
 impl<P: VertexProgram> Cluster<P> {
+    /// The least place that can work. It takes no memory. A place is not asked again until it has worked, a batch has
+    /// come to it, or another event than a work or a delivery was played.
+    pub fn first_worker(&self) -> Option<u8>
+        ensures { result ≡ find (λ p. can_work self.now.cluster.coordinator p (host self.now.cluster p))
+            (below self.now.cluster.places) }
+    {
+        for p in 0..self.places() {
+            if self.is_worker(p) {
+                return Some(p);
+            }
+        }
+        None
+    }
+
+    // Whether a place can work. A place that is known to rest is not asked.
+    fn is_worker(&self, p: u8) -> bool
+        requires place { p < self.now.cluster.places }
+        ensures { result ≡ can_work self.now.cluster.coordinator p (host self.now.cluster p) }
+    {
+        let _count = self.places();
+        !self.resting.has(p) && self.can_work(p)
+    }
+
+    // The places that rest are noted: those of a set that did before, except a place that is asked.
+    pub(crate) fn look_again(&mut self, p: u8, resting: PlaceSet)
+        requires others { (q : ℕ) → q ≢ p → has resting q ≡ true
+            → can_work self.old.cluster.coordinator q (host self.old.cluster q) ≡ false }
+        ensures { self.new ≡ self.old }
+    {
+        if p >= self.places() {
+            return;
+        }
+        self.resting = if self.can_work(p) {
+            resting.without(p)
+        } else {
+            resting.with(p)
+        };
+    }
+
     /// Whether the next work of a place does something: its outcome is neither that it waits nor that it is idle. It
     /// takes no memory, and time in proportion to the batches in the inbox of the place.
     pub fn can_work(&self, p: u8) -> bool

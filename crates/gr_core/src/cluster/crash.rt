@@ -7,6 +7,7 @@ ghost use Rattle.gr_cluster.specs.Step.{step};
 
 use crate::cluster::Cluster;
 use crate::host::Host;
+use gr_base::PlaceSet;
 use gr_batch::Outcome;
 use gr_log::EdgeLog;
 use gr_program::VertexProgram;
@@ -17,11 +18,13 @@ impl<P: VertexProgram> Cluster<P> {
     pub(crate) fn crash(&mut self, p: u8, keep: u32) -> Outcome<P::Value, P::Acc>
         requires place { p < self.old.cluster.places }
         requires going { is_over self.old.cluster.coordinator.mode ≡ false }
-        ensures step { (self.new.cluster, result) ≡ step (P.program_of self.old.program) self.old.cluster (event.Crash p keep) }
+        ensures step { (self.new.cluster, result)
+            ≡ step (P.program_of self.old.program) self.old.cluster (event.Crash p keep) }
         ensures program { self.new.program ≡ self.old.program }
     {
         let _count = self.places();
-        self.kept = None;
+        self.kept.forget_all();
+        self.resting = PlaceSet::none();
         self.retired = None;
         if lose(&mut self.hosts, p) {
             Outcome::Crashed(tear(&mut self.logs, p, keep))

@@ -8,11 +8,11 @@ use gr_migrate::lost;
 use gr_program::VertexProgram;
 
 impl<P: VertexProgram> Cluster<P> {
-    /// The vertices that are lost, rising, once a recovery has found them: those in committed records of dead places all
-    /// of whose holders are dead.
+    /// The vertices that are lost, rising, once a recovery has found them: those in committed records of dead places
+    /// all of whose holders are dead.
     ///
-    /// The one error is that memory ran out. In time linear in the committed records of the dead places, with a logarithm
-    /// in the vertices for each.
+    /// The one error is that memory ran out. In time linear in the committed records of the dead places, with a
+    /// logarithm in the vertices for each.
     pub fn lost_list(&self) -> Result<Items<u32>, OutOfMemory>
         requires lost { self.now.cluster.coordinator.mode ≡ mode.Lost }
         ensures { IfOk result (λ vertices. vertices ≡ lost_list self.now.cluster) }

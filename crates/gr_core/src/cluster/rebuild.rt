@@ -1,4 +1,5 @@
-ghost use Rattle.std.specs.Prelude.{◌≡◌, ◌<◌, ◌-◌, ◌^◌, true, false, length, get_or, set, None, Some, IfSome, IfOk, IsOk, IsTrue, OnOk, OnErr};
+ghost use Rattle.std.specs.Prelude.{◌≡◌, ◌<◌, ◌-◌, ◌^◌, true, false, length, get_or, set, None, Some, IfSome, IfOk};
+ghost use Rattle.std.specs.Prelude.{IsOk, IsTrue, OnOk, OnErr};
 ghost use Rattle.gr_base.specs.Places.{without_place};
 ghost use Rattle.gr_batch.specs.Stages.{is_end};
 ghost use Rattle.gr_sched.specs.declared.event.Event.TheVariants as event;
@@ -42,10 +43,12 @@ impl<P: VertexProgram> Cluster<P> {
         requires turn { turn_of self.old.cluster.coordinator (host self.old.cluster p) ≡ turn.Rebuild }
         requires flight { length self.old.cluster.flight < 2 ^ 32 - 1 }
         requires serial { self.old.cluster.serial < 2 ^ 64 - 1 }
-        ensures ok { IfOk result (λ outcome. (self.new.cluster, outcome) ≡ step (P.program_of self.old.program) self.old.cluster (event.Work p)) }
+        ensures ok { IfOk result (λ outcome. (self.new.cluster, outcome)
+            ≡ step (P.program_of self.old.program) self.old.cluster (event.Work p)) }
         ensures program { self.new.program ≡ self.old.program }
         ensures err { OnErr result (self.new ≡ self.old) }
-        ensures told { takes_memory (event.Work p) (step (P.program_of self.old.program) self.old.cluster (event.Work p)).1 ≡ false → IsOk result }
+        ensures told { takes_memory (event.Work p)
+            (step (P.program_of self.old.program) self.old.cluster (event.Work p)).1 ≡ false → IsOk result }
     {
         match self.next_in_rebuild(p) {
             Step::Compute => self.compute_at(p),
@@ -95,12 +98,14 @@ impl<P: VertexProgram> Cluster<P> {
     fn compute_at(&mut self, p: u8) -> Result<Outcome<P::Value, P::Acc>, OutOfMemory>
         requires place { p < self.old.cluster.places }
         requires next { HasToDo self.old.cluster p Todo.Compute }
-        ensures ok { IfOk result (λ outcome. (self.new.cluster, outcome) ≡ step (P.program_of self.old.program) self.old.cluster (event.Work p)) }
+        ensures ok { IfOk result (λ outcome. (self.new.cluster, outcome)
+            ≡ step (P.program_of self.old.program) self.old.cluster (event.Work p)) }
         ensures program { self.new.program ≡ self.old.program }
         ensures err { OnErr result (self.new ≡ self.old) }
     {
         let place = self.place_in_rebuild(p);
-        self.kept = None;
+        self.kept.forget_all();
+        self.resting = PlaceSet::none();
         let logs = self.logs.as_slice();
         keep_retired(self.alloc, &mut self.retired, logs, &place.view)?;
         let retired = edges_of(&self.retired);
@@ -114,7 +119,8 @@ impl<P: VertexProgram> Cluster<P> {
         requires next { HasToDo self.old.cluster p (Todo.Send to) }
         requires flight { length self.old.cluster.flight < 2 ^ 32 - 1 }
         requires serial { self.old.cluster.serial < 2 ^ 64 - 1 }
-        ensures ok { IfOk result (λ outcome. (self.new.cluster, outcome) ≡ step (P.program_of self.old.program) self.old.cluster (event.Work p)) }
+        ensures ok { IfOk result (λ outcome. (self.new.cluster, outcome)
+            ≡ step (P.program_of self.old.program) self.old.cluster (event.Work p)) }
         ensures program { self.new.program ≡ self.old.program }
         ensures err { OnErr result (self.new ≡ self.old) }
     {
@@ -133,7 +139,8 @@ impl<P: VertexProgram> Cluster<P> {
             body,
         };
         let parties = self.coordinator.parties();
-        self.kept = None;
+        self.kept.forget_all();
+        self.resting = PlaceSet::none();
         send(
             &mut self.hosts,
             &mut self.flight,
@@ -148,12 +155,14 @@ impl<P: VertexProgram> Cluster<P> {
     fn append_at(&mut self, p: u8) -> Result<Outcome<P::Value, P::Acc>, OutOfMemory>
         requires place { p < self.old.cluster.places }
         requires next { HasToDo self.old.cluster p Todo.Append }
-        ensures ok { IfOk result (λ outcome. (self.new.cluster, outcome) ≡ step (P.program_of self.old.program) self.old.cluster (event.Work p)) }
+        ensures ok { IfOk result (λ outcome. (self.new.cluster, outcome)
+            ≡ step (P.program_of self.old.program) self.old.cluster (event.Work p)) }
         ensures program { self.new.program ≡ self.old.program }
         ensures err { OnErr result (self.new ≡ self.old) }
     {
         let place = self.place_in_rebuild(p);
-        self.kept = None;
+        self.kept.forget_all();
+        self.resting = PlaceSet::none();
         let logs = self.logs.as_slice();
         keep_retired(self.alloc, &mut self.retired, logs, &place.view)?;
         let retired = edges_of(&self.retired);
@@ -165,10 +174,12 @@ impl<P: VertexProgram> Cluster<P> {
     fn report_at(&mut self, p: u8) -> Outcome<P::Value, P::Acc>
         requires place { p < self.old.cluster.places }
         requires next { HasToDo self.old.cluster p Todo.Report }
-        ensures step { (self.new.cluster, result) ≡ step (P.program_of self.old.program) self.old.cluster (event.Work p) }
+        ensures step { (self.new.cluster, result)
+            ≡ step (P.program_of self.old.program) self.old.cluster (event.Work p) }
         ensures program { self.new.program ≡ self.old.program }
     {
-        self.kept = None;
+        self.kept.forget_all();
+        self.resting = PlaceSet::none();
         let due = report(&mut self.hosts, p);
         self.coordinator.report(p, due);
         Outcome::Ready(due)
@@ -177,7 +188,9 @@ impl<P: VertexProgram> Cluster<P> {
 
 // What a place does next in a rebuild.
 fn next_in_rebuild<P: VertexProgram>(slot: &Option<Host<P>>, p: u8, parties: PlaceSet) -> Step
-    ensures next { (h : Held P.Value P.Acc) → slot.now ≡ Some h → todo_of result ≡ todo_in_rebuild h.inbox h.epoch (without_place parties p) (exchange_of h) h.appended h.reported }
+    ensures next { (h : Held P.Value P.Acc) → slot.now ≡ Some h
+        → todo_of result ≡ todo_in_rebuild h.inbox h.epoch (without_place parties p)
+        (exchange_of h) h.appended h.reported }
     ensures place { place_to result < 64 }
 {
     match slot {
@@ -194,10 +207,15 @@ fn compute<P: VertexProgram>(
     place: &PlaceInRebuild,
 ) -> Result<Stage, OutOfMemory>
     requires place { place.now.place < length hosts.old.items }
-    requires ready { IfSome (get_or hosts.old.items place.now.place None) (λ h. ReadyToRebuild place.now retired.now h) }
+    requires ready { IfSome (get_or hosts.old.items place.now.place None)
+        (λ h. ReadyToRebuild place.now retired.now h) }
     requires fresh { IfSome (get_or hosts.old.items place.now.place None) (λ h. h.computed ≡ false) }
-    ensures stage { (h : Held P.Value P.Acc) → get_or hosts.old.items place.now.place None ≡ Some h → IfOk result (λ stage. stage ≡ h.stage) }
-    ensures hosts { (h : Held P.Value P.Acc) → get_or hosts.old.items place.now.place None ≡ Some h → OnOk result (hosts.new.items ≡ set hosts.old.items place.now.place (Some (computed_host place.now.others (rows_after place.now retired.now h h.stage) (arcs_after place.now retired.now h h.stage) h))) }
+    ensures stage { (h : Held P.Value P.Acc) → get_or hosts.old.items place.now.place None ≡ Some h
+        → IfOk result (λ stage. stage ≡ h.stage) }
+    ensures hosts { (h : Held P.Value P.Acc) → get_or hosts.old.items place.now.place None ≡ Some h
+        → OnOk result (hosts.new.items ≡ set hosts.old.items place.now.place
+        (Some (computed_host place.now.others (rows_after place.now retired.now h h.stage)
+        (arcs_after place.now retired.now h h.stage) h))) }
     ensures err { OnErr result (hosts.new.items ≡ hosts.old.items) }
 {
     match &mut hosts[usize::from(place.place)] {
@@ -215,7 +233,8 @@ fn body_to<P: VertexProgram>(
     to: u8,
 ) -> Result<Body<P::Value, P::Acc>, OutOfMemory>
     requires { IfSome slot.now (λ h. ReadyToRebuild place.now retired.now h) }
-    ensures { (h : Held P.Value P.Acc) → slot.now ≡ Some h → IfOk result (λ body. body ≡ body_after place.now retired.now h to h.stage) }
+    ensures { (h : Held P.Value P.Acc) → slot.now ≡ Some h
+        → IfOk result (λ body. body ≡ body_after place.now retired.now h to h.stage) }
 {
     match slot {
         None => Ok(Body::Ask(Items::new(alloc))),
@@ -233,11 +252,16 @@ fn append<P: VertexProgram>(
 ) -> Result<u64, OutOfMemory>
     requires place { place.now.place < length hosts.old.items }
     requires logged { place.now.place < length logs.old.items }
-    requires ready { IfSome (get_or hosts.old.items place.now.place None) (λ h. ReadyToRebuild place.now retired.now h) }
+    requires ready { IfSome (get_or hosts.old.items place.now.place None)
+        (λ h. ReadyToRebuild place.now retired.now h) }
     requires committed { IsAllCommitted (log_at logs.old.items place.now.place) }
-    ensures bytes { (h : Held P.Value P.Acc) → get_or hosts.old.items place.now.place None ≡ Some h → IfOk result (λ bytes. bytes ≡ size_of (appended_by place.now retired.now h)) }
-    ensures logs { (h : Held P.Value P.Acc) → get_or hosts.old.items place.now.place None ≡ Some h → OnOk result (logs.new.items ≡ set logs.old.items place.now.place (with_records (appended_by place.now retired.now h) (log_at logs.old.items place.now.place))) }
-    ensures hosts { (h : Held P.Value P.Acc) → get_or hosts.old.items place.now.place None ≡ Some h → OnOk result (hosts.new.items ≡ set hosts.old.items place.now.place (Some (record h { appended = true }))) }
+    ensures bytes { (h : Held P.Value P.Acc) → get_or hosts.old.items place.now.place None ≡ Some h
+        → IfOk result (λ bytes. bytes ≡ size_of (appended_by place.now retired.now h)) }
+    ensures logs { (h : Held P.Value P.Acc) → get_or hosts.old.items place.now.place None ≡ Some h
+        → OnOk result (logs.new.items ≡ set logs.old.items place.now.place
+        (with_records (appended_by place.now retired.now h) (log_at logs.old.items place.now.place))) }
+    ensures hosts { (h : Held P.Value P.Acc) → get_or hosts.old.items place.now.place None ≡ Some h
+        → OnOk result (hosts.new.items ≡ set hosts.old.items place.now.place (Some (record h { appended = true }))) }
     ensures logs_kept { OnErr result (logs.new.items ≡ logs.old.items) }
     ensures hosts_kept { OnErr result (hosts.new.items ≡ hosts.old.items) }
 {
@@ -252,7 +276,8 @@ fn report<P: VertexProgram>(hosts: &mut Vec<Option<Host<P>>>, p: u8) -> u32
     requires place { p < length hosts.old.items }
     requires computed { IfSome (get_or hosts.old.items p None) (λ h. IsTrue h.computed) }
     requires end { IfSome (get_or hosts.old.items p None) (λ h. IsTrue (is_end h.stage)) }
-    ensures hosts { (h : Held P.Value P.Acc) → get_or hosts.old.items p None ≡ Some h → hosts.new.items ≡ set hosts.old.items p (Some (record h { reported = true })) }
+    ensures hosts { (h : Held P.Value P.Acc) → get_or hosts.old.items p None ≡ Some h
+        → hosts.new.items ≡ set hosts.old.items p (Some (record h { reported = true })) }
     ensures due { (h : Held P.Value P.Acc) → get_or hosts.old.items p None ≡ Some h → result ≡ due_count p h.pending }
 {
     match &mut hosts[usize::from(p)] {

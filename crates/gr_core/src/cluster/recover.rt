@@ -20,7 +20,8 @@ impl<P: VertexProgram> Cluster<P> {
     ) -> Result<Outcome<P::Value, P::Acc>, OutOfMemory>
         requires going { is_over self.old.cluster.coordinator.mode ≡ false }
         requires epoch { self.old.cluster.coordinator.epoch < 2 ^ 64 - 1 }
-        ensures ok { IfOk result (λ outcome. (self.new.cluster, outcome) ≡ step (P.program_of self.old.program) self.old.cluster (event.Recover rebirth)) }
+        ensures ok { IfOk result (λ outcome. (self.new.cluster, outcome)
+            ≡ step (P.program_of self.old.program) self.old.cluster (event.Recover rebirth)) }
         ensures program { self.new.program ≡ self.old.program }
         ensures err { OnErr result (self.new ≡ self.old) }
     {
@@ -40,7 +41,8 @@ impl<P: VertexProgram> Cluster<P> {
             self.coordinator.commits,
             opening,
         )?;
-        self.kept = None;
+        self.kept.forget_all();
+        self.resting = PlaceSet::none();
         self.retired = None;
         self.coordinator = after;
         Ok(opened(lost, opening))

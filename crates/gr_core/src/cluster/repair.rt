@@ -5,6 +5,7 @@ ghost use Rattle.gr_cluster.specs.Step.{step};
 ghost use Rattle.gr_core.specs.Decided.{opened_in};
 
 use crate::cluster::Cluster;
+use gr_base::PlaceSet;
 use gr_batch::Outcome;
 use gr_program::{Datum, VertexProgram};
 
@@ -16,7 +17,8 @@ impl<P: VertexProgram> Cluster<P> {
         ensures step { (self.new.cluster, result) ≡ step (P.program_of self.old.program) self.old.cluster event.Repair }
         ensures program { self.new.program ≡ self.old.program }
     {
-        self.kept = None;
+        self.kept.forget_all();
+        self.resting = PlaceSet::none();
         self.retired = None;
         repaired(self.coordinator.open_repair())
     }

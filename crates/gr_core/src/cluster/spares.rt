@@ -49,7 +49,8 @@ fn spares<P: VertexProgram>(
     commits: u64,
 ) -> Result<Vec<Option<Host<P>>>, OutOfMemory>
     requires { length logs.now ≤ 64 }
-    ensures { IfOk result (λ spares. spares.items ≡ map (spare_at reborn epoch commits logs.now) (below (length logs.now))) }
+    ensures { IfOk result (λ spares. spares.items
+        ≡ map (spare_at reborn epoch commits logs.now) (below (length logs.now))) }
 {
     let mut spares = Vec::new(alloc);
     for p in 0..logs.len() as u8 {

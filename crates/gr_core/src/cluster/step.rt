@@ -16,13 +16,13 @@ impl<P: VertexProgram> Cluster<P> {
     /// It keeps the invariant of `Cluster`: before and after it the cluster agrees with some committed state.
     ///
     /// A work costs what the computing of a stage, of the body of one batch, or of what is appended to a log costs. A
-    /// delivery copies its batch; a recovery reads the logs of the dead places; a barrier and a discard take time linear
-    /// in the places.
+    /// delivery copies its batch; a recovery reads the logs of the dead places; a barrier and a discard take time
+    /// linear in the places.
     ///
     /// # Errors
     ///
-    /// `OutOfMemory` if memory runs out, only for the computing of a stage, a send, an append, a delivery or a recovery;
-    /// then all is as it was.
+    /// `OutOfMemory` if memory runs out, only for the computing of a stage, a send, an append, a delivery or a
+    /// recovery; then all is as it was.
     pub fn step(&mut self, event: Event) -> Result<Outcome<P::Value, P::Acc>, OutOfMemory>
         requires worker { (p : ℕ) → event ≡ kind.Work p → p < self.old.cluster.places }
         requires crashed { (p n : ℕ) → event ≡ kind.Crash p n → p < self.old.cluster.places }
@@ -30,10 +30,12 @@ impl<P: VertexProgram> Cluster<P> {
         requires serial { self.old.cluster.serial < 2 ^ 64 - 1 }
         requires epoch { self.old.cluster.coordinator.epoch < 2 ^ 64 - 1 }
         requires commits { self.old.cluster.coordinator.commits < 2 ^ 64 - 1 }
-        ensures ok { IfOk result (λ outcome. (self.new.cluster, outcome) ≡ step (P.program_of self.old.program) self.old.cluster event) }
+        ensures ok { IfOk result (λ outcome. (self.new.cluster, outcome)
+            ≡ step (P.program_of self.old.program) self.old.cluster event) }
         ensures program { self.new.program ≡ self.old.program }
         ensures err { OnErr result (self.new ≡ self.old) }
-        ensures told { takes_memory event (step (P.program_of self.old.program) self.old.cluster event).1 ≡ false → IsOk result }
+        ensures told { takes_memory event (step (P.program_of self.old.program) self.old.cluster event).1 ≡ false
+            → IsOk result }
     {
         if is_over(self.mode()) {
             return Ok(Outcome::Idle);

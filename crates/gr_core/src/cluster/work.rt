@@ -1,4 +1,5 @@
-ghost use Rattle.std.specs.Prelude.{◌≡◌, ℕ, List, IsSome, ◌<◌, ◌-◌, ◌+◌, ◌^◌, false, ◌∷◌, [], ◌++◌, length, get_or, set, option_map, None, Some, IfOk, IsOk, OnOk, OnErr, IfSome, IsTrue, not};
+ghost use Rattle.std.specs.Prelude.{◌≡◌, ℕ, List, IsSome, ◌<◌, ◌-◌, ◌+◌, ◌^◌, false, ◌∷◌, [], ◌++◌, length, get_or};
+ghost use Rattle.std.specs.Prelude.{set, option_map, None, Some, IfOk, IsOk, OnOk, OnErr, IfSome, IsTrue, not};
 ghost use Rattle.gr_base.specs.Places.{without_place};
 ghost use Rattle.gr_batch.specs.Bodies.{stage_of_body};
 ghost use Rattle.gr_batch.specs.declared.outcome.Outcome.TheVariants as outcome;
@@ -23,7 +24,7 @@ ghost use Rattle.gr_core.specs.Works.{NeedsHold, MaySend, MayWork, cluster_of};
 
 use crate::cluster::Cluster;
 use crate::host::Host;
-use crate::targets::{KeptTargets, is_kept_at};
+use crate::targets::KeptTargets;
 use crate::turn::{Turn, is_rebuild};
 use gr_base::{OutOfMemory, PlaceSet};
 use gr_batch::{Batch, Outcome, stage_of};
@@ -36,16 +37,37 @@ use gr_view::Coordinator;
 use std::alloc::Global;
 
 impl<P: VertexProgram> Cluster<P> {
-    // What comes next at a place is done there.
+    // What comes next at a place is done there, and it is looked whether there is more.
     pub(crate) fn work(&mut self, p: u8) -> Result<Outcome<P::Value, P::Acc>, OutOfMemory>
         requires place { p < self.old.cluster.places }
         requires going { is_over self.old.cluster.coordinator.mode ≡ false }
         requires flight { length self.old.cluster.flight < 2 ^ 32 - 1 }
         requires serial { self.old.cluster.serial < 2 ^ 64 - 1 }
-        ensures ok { IfOk result (λ outcome. (self.new.cluster, outcome) ≡ step (P.program_of self.old.program) self.old.cluster (event.Work p)) }
+        ensures ok { IfOk result (λ outcome. (self.new.cluster, outcome)
+            ≡ step (P.program_of self.old.program) self.old.cluster (event.Work p)) }
         ensures program { self.new.program ≡ self.old.program }
         ensures err { OnErr result (self.new ≡ self.old) }
-        ensures told { takes_memory (event.Work p) (step (P.program_of self.old.program) self.old.cluster (event.Work p)).1 ≡ false → IsOk result }
+        ensures told { takes_memory (event.Work p)
+            (step (P.program_of self.old.program) self.old.cluster (event.Work p)).1 ≡ false → IsOk result }
+    {
+        let resting = self.resting;
+        let outcome = self.work_at(p)?;
+        self.look_again(p, resting);
+        Ok(outcome)
+    }
+
+    // What comes next at a place is done there.
+    fn work_at(&mut self, p: u8) -> Result<Outcome<P::Value, P::Acc>, OutOfMemory>
+        requires place { p < self.old.cluster.places }
+        requires going { is_over self.old.cluster.coordinator.mode ≡ false }
+        requires flight { length self.old.cluster.flight < 2 ^ 32 - 1 }
+        requires serial { self.old.cluster.serial < 2 ^ 64 - 1 }
+        ensures ok { IfOk result (λ outcome. (self.new.cluster, outcome)
+            ≡ step (P.program_of self.old.program) self.old.cluster (event.Work p)) }
+        ensures program { self.new.program ≡ self.old.program }
+        ensures err { OnErr result (self.new ≡ self.old) }
+        ensures told { takes_memory (event.Work p)
+            (step (P.program_of self.old.program) self.old.cluster (event.Work p)).1 ≡ false → IsOk result }
     {
         match self.turn_at(p) {
             Turn::Rest => Ok(self.rest_at(p)),
@@ -81,10 +103,12 @@ impl<P: VertexProgram> Cluster<P> {
         requires place { p < self.old.cluster.places }
         requires going { is_over self.old.cluster.coordinator.mode ≡ false }
         requires turn { turn_of self.old.cluster.coordinator (host self.old.cluster p) ≡ turn.Install }
-        ensures step { (self.new.cluster, result) ≡ step (P.program_of self.old.program) self.old.cluster (event.Work p) }
+        ensures step { (self.new.cluster, result)
+            ≡ step (P.program_of self.old.program) self.old.cluster (event.Work p) }
         ensures program { self.new.program ≡ self.old.program }
     {
-        self.kept = None;
+        self.kept.forget_all();
+        self.resting = PlaceSet::none();
         Outcome::Installed(install(&mut self.hosts, p))
     }
 
@@ -93,10 +117,12 @@ impl<P: VertexProgram> Cluster<P> {
         requires place { p < self.old.cluster.places }
         requires going { is_over self.old.cluster.coordinator.mode ≡ false }
         requires turn { turn_of self.old.cluster.coordinator (host self.old.cluster p) ≡ turn.Adopt }
-        ensures step { (self.new.cluster, result) ≡ step (P.program_of self.old.program) self.old.cluster (event.Work p) }
+        ensures step { (self.new.cluster, result)
+            ≡ step (P.program_of self.old.program) self.old.cluster (event.Work p) }
         ensures program { self.new.program ≡ self.old.program }
     {
-        self.kept = None;
+        self.kept.forget_all();
+        self.resting = PlaceSet::none();
         let rebuild = is_rebuild(self.coordinator.mode);
         adopt(&mut self.hosts, p, self.coordinator.epoch, rebuild);
         cut_tail(&mut self.logs, p);
@@ -110,11 +136,14 @@ impl<P: VertexProgram> Cluster<P> {
         requires turn { turn_of self.old.cluster.coordinator (host self.old.cluster p) ≡ turn.Act }
         requires flight { length self.old.cluster.flight < 2 ^ 32 - 1 }
         requires serial { self.old.cluster.serial < 2 ^ 64 - 1 }
-        ensures ok { IfOk result (λ outcome. (self.new.cluster, outcome) ≡ step (P.program_of self.old.program) self.old.cluster (event.Work p)) }
+        ensures ok { IfOk result (λ outcome. (self.new.cluster, outcome)
+            ≡ step (P.program_of self.old.program) self.old.cluster (event.Work p)) }
         ensures program { self.new.program ≡ self.old.program }
         ensures err { OnErr result (self.new ≡ self.old) }
-        ensures told { takes_memory (event.Work p) (step (P.program_of self.old.program) self.old.cluster (event.Work p)).1 ≡ false → IsOk result }
+        ensures told { takes_memory (event.Work p)
+            (step (P.program_of self.old.program) self.old.cluster (event.Work p)).1 ≡ false → IsOk result }
     {
+        self.resting = PlaceSet::none();
         self.retired = None;
         act_in_round(
             self.alloc,
@@ -144,7 +173,8 @@ fn turn_of<P: VertexProgram>(coordinator: &Coordinator, slot: &Option<Host<P>>) 
 fn install<P: VertexProgram>(hosts: &mut Vec<Option<Host<P>>>, p: u8) -> u64
     requires place { p < length hosts.old.items }
     requires room { IfSome (get_or hosts.old.items p None) (λ h. h.installed < 2 ^ 64 - 1) }
-    ensures hosts { hosts.new.items ≡ set hosts.old.items p (option_map installed_host (get_or hosts.old.items p None)) }
+    ensures hosts { hosts.new.items ≡ set hosts.old.items p
+        (option_map installed_host (get_or hosts.old.items p None)) }
     ensures count { (h : Held P.Value P.Acc) → get_or hosts.old.items p None ≡ Some h → result ≡ h.installed + 1 }
 {
     match &mut hosts[usize::from(p)] {
@@ -156,7 +186,8 @@ fn install<P: VertexProgram>(hosts: &mut Vec<Option<Host<P>>>, p: u8) -> u64
 // A place adopts a new epoch, in which a rebuild is open or none.
 fn adopt<P: VertexProgram>(hosts: &mut Vec<Option<Host<P>>>, p: u8, epoch: u64, rebuild: bool)
     requires { p < length hosts.old.items }
-    ensures { (m : Mode) → is_rebuild m ≡ rebuild → hosts.new.items ≡ set hosts.old.items p (option_map (adopted_host epoch m) (get_or hosts.old.items p None)) }
+    ensures { (m : Mode) → is_rebuild m ≡ rebuild
+        → hosts.new.items ≡ set hosts.old.items p (option_map (adopted_host epoch m) (get_or hosts.old.items p None)) }
 {
     match &mut hosts[usize::from(p)] {
         None => {}
@@ -176,7 +207,7 @@ fn cut_tail(logs: &mut Vec<EdgeLog>, p: u8)
 fn act_in_round<P: VertexProgram>(
     alloc: Global,
     hosts: &mut Vec<Option<Host<P>>>,
-    kept: &mut Option<KeptTargets>,
+    kept: &mut KeptTargets,
     flight: &mut Flight<P::Value, P::Acc>,
     serial: &mut u64,
     coordinator: &mut Coordinator,
@@ -220,7 +251,7 @@ fn act_in_round<P: VertexProgram>(
         theta,
     };
     keep_targets(alloc, hosts.as_slice(), kept, p, &view, program)?;
-    match act(alloc, hosts, kept, p, &view, program)? {
+    match act(alloc, hosts, kept.at(p), p, &view, program)? {
         Act::Computed(stage) => Ok(Outcome::Computed(stage)),
         Act::Sent(batch) => send(hosts, flight, serial, p, view.parties, batch),
         Act::Ready(due) => {
@@ -246,7 +277,9 @@ pub(crate) fn send<P: VertexProgram>(
     requires room { length flight.old < 2 ^ 32 - 1 }
     requires serial { serial.old < 2 ^ 64 - 1 }
     ensures ok { IfOk result (λ told. told ≡ outcome.Sent serial.old (stage_of_body batch.body) batch.receiver) }
-    ensures hosts { OnOk result ((h : Held P.Value P.Acc) (q : ℕ) → get_or hosts.old.items p None ≡ Some h → unsent (without_place parties p) h.sent ≡ Some q → hosts.new.items ≡ set hosts.old.items p (Some (sent_host (without_place parties p) q h))) }
+    ensures hosts { OnOk result ((h : Held P.Value P.Acc) (q : ℕ) → get_or hosts.old.items p None ≡ Some h
+        → unsent (without_place parties p) h.sent ≡ Some q
+        → hosts.new.items ≡ set hosts.old.items p (Some (sent_host (without_place parties p) q h))) }
     ensures flight { OnOk result (flight.new ≡ flight.old ++ batch ∷ []) }
     ensures serial { OnOk result (serial.new ≡ serial.old + 1) }
     ensures stand { StandAsBefore hosts.old.items hosts.new.items }
@@ -265,7 +298,8 @@ pub(crate) fn send<P: VertexProgram>(
 
 fn note_sent<P: VertexProgram>(slot: &mut Option<Host<P>>, p: u8, parties: PlaceSet)
     requires { IfSome slot.old (λ h. MaySend (without_place parties p) h) }
-    ensures sent { (h : Held P.Value P.Acc) (q : ℕ) → slot.old ≡ Some h → unsent (without_place parties p) h.sent ≡ Some q → slot.new ≡ Some (sent_host (without_place parties p) q h) }
+    ensures sent { (h : Held P.Value P.Acc) (q : ℕ) → slot.old ≡ Some h
+        → unsent (without_place parties p) h.sent ≡ Some q → slot.new ≡ Some (sent_host (without_place parties p) q h) }
     ensures none { slot.old ≡ None → slot.new ≡ None }
 {
     match slot {
@@ -278,28 +312,26 @@ fn note_sent<P: VertexProgram>(slot: &mut Option<Host<P>>, p: u8, parties: Place
 fn keep_targets<P: VertexProgram>(
     alloc: Global,
     hosts: &[Option<Host<P>>],
-    kept: &mut Option<KeptTargets>,
+    kept: &mut KeptTargets,
     p: u8,
     view: &RoundView,
     program: &P,
 ) -> Result<(), OutOfMemory>
     requires place { p < length hosts.now }
+    requires few { p < 64 }
     requires needs { IfSome (get_or hosts.now p None) (λ h. NeedsHold (P.program_of program.now) p view.now h) }
     requires targets { TargetsFit (P.program_of program.now) view.now.epoch view.now.parties hosts.now kept.old }
     ensures targets { TargetsFit (P.program_of program.now) view.now.epoch view.now.parties hosts.now kept.new }
-    ensures kept { OnOk result (AreKept (P.program_of program.now) view.now p hosts.now kept.new) }
+    ensures kept { OnOk result (AreKept (P.program_of program.now) view.now p hosts.now (get_or kept.new p None)) }
     ensures ok { (h : Held P.Value P.Acc) → get_or hosts.now p None ≡ Some h
         → takes_targets h.stage (next_of p view.now h) ≡ false → IsOk result }
 {
     let Some(host) = &hosts[usize::from(p)] else {
         return Ok(());
     };
-    if is_kept_at(kept, p) {
-        return Ok(());
-    }
-    if host.takes_targets(p, view) {
+    if kept.at(p).is_none() && host.takes_targets(p, view) {
         let targets = host.targets(alloc, p, view, program)?;
-        *kept = Some(KeptTargets { place: p, targets });
+        kept.keep(p, targets);
     }
     Ok(())
 }
@@ -308,7 +340,7 @@ fn keep_targets<P: VertexProgram>(
 fn act<P: VertexProgram>(
     alloc: Global,
     hosts: &mut Vec<Option<Host<P>>>,
-    kept: &Option<KeptTargets>,
+    kept: &Option<Targets>,
     p: u8,
     view: &RoundView,
     program: &P,
@@ -336,7 +368,7 @@ fn act<P: VertexProgram>(
 fn act_with<P: VertexProgram>(
     alloc: Global,
     host: &mut Host<P>,
-    kept: &Option<KeptTargets>,
+    kept: &Option<Targets>,
     p: u8,
     view: &RoundView,
     program: &P,
@@ -351,7 +383,7 @@ fn act_with<P: VertexProgram>(
     ensures err { OnErr result (host.new ≡ host.old) }
 {
     match kept {
-        Some(kept) => host.act(alloc, p, view, program, &kept.targets),
+        Some(targets) => host.act(alloc, p, view, program, targets),
         None => {
             let none = Targets::none(alloc);
             host.act(alloc, p, view, program, &none)

@@ -23,15 +23,16 @@ use std::alloc::Global;
 impl<P: VertexProgram> Host<P> {
     // What the place `me` does next in a rebuild of an epoch that it has adopted.
     pub(crate) fn next_in_rebuild(&self, me: u8, parties: PlaceSet) -> Step
-        ensures next { todo_of result ≡ todo_in_rebuild self.now.inbox self.now.epoch (without_place parties me) (exchange_of self.now) self.now.appended self.now.reported }
+        ensures next { todo_of result ≡ todo_in_rebuild self.now.inbox self.now.epoch (without_place parties me)
+            (exchange_of self.now) self.now.appended self.now.reported }
         ensures place { place_to result < 64 }
     {
         self.round
             .next_in_rebuild(me, self.epoch, parties, &self.inbox, self.appended)
     }
 
-    // The stage of a rebuild is computed. At the end the copies that are granted to the place and the edges that it takes
-    // over are staged.
+    // The stage of a rebuild is computed. At the end the copies that are granted to the place and the edges that it
+    // takes over are staged.
     pub(crate) fn compute_in_rebuild(
         &mut self,
         alloc: Global,
@@ -41,7 +42,9 @@ impl<P: VertexProgram> Host<P> {
         requires ready { ReadyToRebuild place.now retired.now self.old }
         requires fresh { self.old.computed ≡ false }
         ensures stage { IfOk result (λ stage. stage ≡ self.old.stage) }
-        ensures host { OnOk result (self.new ≡ computed_host place.now.others (rows_after place.now retired.now self.old self.old.stage) (arcs_after place.now retired.now self.old self.old.stage) self.old) }
+        ensures host { OnOk result (self.new ≡ computed_host place.now.others
+            (rows_after place.now retired.now self.old self.old.stage)
+            (arcs_after place.now retired.now self.old self.old.stage) self.old) }
         ensures err { OnErr result (self.new ≡ self.old) }
     {
         let stage = self.round.stage();
@@ -61,7 +64,10 @@ impl<P: VertexProgram> Host<P> {
     ) -> Result<(), OutOfMemory>
         requires ready { ReadyToRebuild place.now retired.now self.old }
         requires fresh { self.old.computed ≡ false }
-        ensures host { OnOk result (self.new ≡ record self.old { pending = rows_after place.now retired.now self.old Stage.End; pending_arcs = arcs_after place.now retired.now self.old Stage.End }) }
+        ensures host { OnOk result (self.new ≡ record self.old {
+          pending = rows_after place.now retired.now self.old Stage.End;
+          pending_arcs = arcs_after place.now retired.now self.old Stage.End;
+        }) }
         ensures err { OnErr result (self.new ≡ self.old) }
     {
         let granted = granted(alloc, place, &self.rows, &self.inbox)?;
@@ -110,7 +116,9 @@ impl<P: VertexProgram> Host<P> {
         requires place { place.now.place < length logs.old.items }
         requires committed { IsAllCommitted (log_at logs.old.items place.now.place) }
         ensures bytes { IfOk result (λ bytes. bytes ≡ size_of (appended_by place.now retired.now self.old)) }
-        ensures logs { OnOk result (logs.new.items ≡ set logs.old.items place.now.place (with_records (appended_by place.now retired.now self.old) (log_at logs.old.items place.now.place))) }
+        ensures logs { OnOk result (logs.new.items
+            ≡ set logs.old.items place.now.place
+            (with_records (appended_by place.now retired.now self.old) (log_at logs.old.items place.now.place))) }
         ensures host { OnOk result (self.new ≡ record self.old { appended = true }) }
         ensures logs_kept { OnErr result (logs.new.items ≡ logs.old.items) }
         ensures host_kept { OnErr result (self.new ≡ self.old) }

@@ -7,7 +7,8 @@ use Rattle.gr_program.specs.Program.{Program}
 use Rattle.gr_batch.specs.declared.batch.Batch.{Batch}
 use Rattle.gr_batch.specs.declared.stage.Stage.{Stage}
 use Rattle.gr_batch.specs.declared.stage.Stage.TheVariants as stage
-use Rattle.gr_batch.specs.Stages.{place_in, is_stage}
+use Rattle.gr_batch.specs.Stages.{is_stage}
+use Rattle.gr_batch.specs.Order.{place_in}
 use Rattle.gr_batch.specs.Bodies.{is_of}
 use Rattle.gr_cluster.specs.Tables.{Host, Cluster, host, inbox_of, view_of, wanted_in}
 use Rattle.gr_agree.specs.Truth.{Truth}

@@ -7,7 +7,7 @@ use Rattle.gr_program.specs.Program.{Program}
 use Rattle.gr_log.specs.Directory.{with_items}
 use Rattle.gr_batch.specs.declared.stage.Stage.{Stage}
 use Rattle.gr_batch.specs.declared.stage.Stage.TheVariants as stage
-use Rattle.gr_batch.specs.Stages.{place_in}
+use Rattle.gr_batch.specs.Order.{place_in}
 use Rattle.gr_view.specs.Modes.{is_rebuild}
 use Rattle.gr_rules.specs.AtPlace.{round_rows}
 use Rattle.gr_rules.specs.Exchange.{needed}

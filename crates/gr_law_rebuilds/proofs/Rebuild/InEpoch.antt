@@ -4,11 +4,13 @@ use Rattle.std.specs.Prelude.{IsTrue}
 use Rattle.gr_program.specs.Program.{Program}
 use Rattle.gr_log.specs.Directory.{with_items}
 use Rattle.gr_batch.specs.declared.stage.Stage.{Stage}
-use Rattle.gr_batch.specs.Stages.{place_in, is_end, stage_after}
+use Rattle.gr_batch.specs.Stages.{is_end, stage_after}
+use Rattle.gr_batch.specs.Order.{place_in}
 use Rattle.gr_view.specs.Modes.{is_rebuild}
 use Rattle.gr_rules.specs.Exchange.{needed}
 use Rattle.gr_cluster.specs.Tables.{Host, Cluster, host, log, view_of, wanted_in}
-use Rattle.gr_cluster.specs.Stages.{stages_of, has_stage, first_stage}
+use Rattle.gr_cluster.specs.Stages.{stages_of, has_stage}
+use Rattle.gr_cluster.specs.Work.{first_stage}
 use Rattle.gr_cluster.specs.Todo.{others}
 use Rattle.gr_agree.specs.Truth.{Truth, arcs_at}
 use Rattle.gr_agree.specs.Rebuilt.{true_taken, true_granted, stable_at}

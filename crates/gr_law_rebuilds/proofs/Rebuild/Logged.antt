@@ -5,7 +5,8 @@ use Rattle.gr_base.specs.declared.records.NumberedEdge.{NumberedEdge}
 use Rattle.gr_base.specs.Rising.{has}
 use Rattle.gr_program.specs.Program.{Program}
 use Rattle.gr_log.specs.declared.record.LogRecord.{LogRecord}
-use Rattle.gr_log.specs.Directory.{Entry, directory_in, edges_in, kept_edges, entry_in, with_items, KeepsEachOnce}
+use Rattle.gr_log.specs.Directory.{Entry, directory_in, edges_in, kept_edges, entry_in, with_items}
+use Rattle.gr_agree.specs.Logs.{KeepsEachOnce}
 use Rattle.gr_rules.specs.Taken.{Ends, ends_of, edges_with_ends}
 use Rattle.gr_agree.specs.Truth.{Truth, held, place_of, arcs_at, true_entry, entries_at}
 use Rattle.gr_agree.specs.Logs.{Sound}

@@ -2,7 +2,8 @@
 use Rattle.std.proofs.Common.{◌≡◌, ℕ, ◌+◌, ◌≤◌, true, false, cond, refl, ap, arith, Some}
 use Rattle.gr_program.specs.Program.{Program}
 use Rattle.gr_batch.specs.declared.stage.Stage.TheVariants as stage
-use Rattle.gr_batch.specs.Stages.{place_in, is_end}
+use Rattle.gr_batch.specs.Stages.{is_end}
+use Rattle.gr_batch.specs.Order.{place_in}
 use Rattle.gr_view.specs.Modes.{is_rebuild}
 use Rattle.gr_rules.specs.Exchange.{unsent}
 use Rattle.gr_rules.specs.Todo.{Todo}

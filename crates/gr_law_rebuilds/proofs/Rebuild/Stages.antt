@@ -3,11 +3,13 @@ use Rattle.std.proofs.Common.{◌≡◌, ◌<◌, ◌≤◌, ◌+◌, true, fals
 use Rattle.std.specs.Prelude.{IsTrue}
 use Rattle.gr_batch.specs.declared.stage.Stage.{Stage}
 use Rattle.gr_batch.specs.declared.stage.Stage.TheVariants as stage
-use Rattle.gr_batch.specs.Stages.{place_in, is_stage, is_end, stage_after}
+use Rattle.gr_batch.specs.Stages.{is_stage, is_end, stage_after}
+use Rattle.gr_batch.specs.Order.{place_in}
 use Rattle.gr_view.specs.declared.coordinator.Mode.{Mode}
 use Rattle.gr_view.specs.declared.coordinator.Mode.TheVariants as mode
 use Rattle.gr_view.specs.Modes.{is_open, is_round, is_failed, is_rebuild, is_over}
-use Rattle.gr_cluster.specs.Stages.{stages_of, has_stage, first_stage}
+use Rattle.gr_cluster.specs.Stages.{stages_of, has_stage}
+use Rattle.gr_cluster.specs.Work.{first_stage}
 
 abbrev pub IsRebuildStage : Stage → Type 0
 IsRebuildStage s = IsTrue (has_stage (stages_of mode.Repairing) s)

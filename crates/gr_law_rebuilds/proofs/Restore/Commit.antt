@@ -10,7 +10,8 @@ use Rattle.gr_program.specs.Program.{Program}
 use Rattle.gr_copies.specs.declared.view.RebuildView.{RebuildView}
 use Rattle.gr_copies.specs.Granter.{is_retiring}
 use Rattle.gr_log.specs.Log.{Log, empty_log, committed_log}
-use Rattle.gr_log.specs.Directory.{directory_in, edges_in, KeepsEachOnce}
+use Rattle.gr_log.specs.Directory.{directory_in, edges_in}
+use Rattle.gr_agree.specs.Logs.{KeepsEachOnce}
 use Rattle.gr_sched.specs.declared.event.Event.{Event}
 use Rattle.gr_view.specs.declared.coordinator.Coordinator.{Coordinator}
 use Rattle.gr_view.specs.declared.coordinator.Mode.TheVariants as mode

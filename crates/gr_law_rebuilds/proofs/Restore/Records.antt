@@ -10,7 +10,8 @@ use Rattle.gr_copies.specs.declared.view.RebuildView.{RebuildView}
 use Rattle.gr_copies.specs.Granter.{is_retiring}
 use Rattle.std.specs.Prelude.{false}
 use Rattle.gr_log.specs.declared.record.LogRecord.{LogRecord}
-use Rattle.gr_log.specs.Directory.{Entry, entry_of, edge_of, with_items, directory_in, kept_edges, edges_in, KeepsEachOnce}
+use Rattle.gr_log.specs.Directory.{Entry, entry_of, edge_of, with_items, directory_in, kept_edges, edges_in}
+use Rattle.gr_agree.specs.Logs.{KeepsEachOnce}
 use Rattle.gr_rules.specs.Rows.{entry}
 use Rattle.gr_rules.specs.Grants.{records_after}
 use Rattle.gr_agree.specs.Truth.{Truth, entries_at, arcs_at}

@@ -6,7 +6,8 @@ use Rattle.std.proofs.lemmas.Bool.{both_ways}
 use Rattle.std.proofs.lemmas.List.Elements.{All-cons, All-nil, All-head, All-tail}
 use Rattle.gr_base.specs.Rising.{RisesBy, has}
 use Rattle.gr_base.proofs.Rising.{rises-tail, rises-head}
-use Rattle.gr_program.specs.Program.{Program, ProgramLaws, total}
+use Rattle.gr_program.specs.Program.{Program, total}
+use Rattle.gr_program.specs.ProgramLaws.{ProgramLaws}
 use Rattle.gr_program.proofs.Totals.{total-cons, fold-from}
 use Rattle.gr_lists.proofs.Tests.{by_test}
 

@@ -6,7 +6,8 @@ use Rattle.std.proofs.lemmas.Bool.{both_ways, and_right, eqb-false}
 use Rattle.gr_base.specs.declared.records.NumberedEdge.{NumberedEdge}
 use Rattle.gr_base.specs.Rising.{has}
 use Rattle.gr_base.specs.Places.{without_place}
-use Rattle.gr_program.specs.Program.{Program, ProgramLaws, total}
+use Rattle.gr_program.specs.Program.{Program, total}
+use Rattle.gr_program.specs.ProgramLaws.{ProgramLaws}
 use Rattle.gr_program.specs.Rounds.{contribution, gathered}
 use Rattle.gr_batch.specs.declared.body.Part.{Part}
 use Rattle.gr_batch.specs.declared.body.Body.{Body}

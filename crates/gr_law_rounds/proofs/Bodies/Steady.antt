@@ -8,7 +8,8 @@ use Rattle.gr_base.specs.declared.records.Edge.{Edge}
 use Rattle.gr_base.specs.declared.records.NumberedEdge.{NumberedEdge}
 use Rattle.gr_base.specs.Degrees.{outdegree}
 use Rattle.gr_base.specs.Rising.{has}
-use Rattle.gr_program.specs.Program.{Program, ProgramLaws}
+use Rattle.gr_program.specs.Program.{Program}
+use Rattle.gr_program.specs.ProgramLaws.{ProgramLaws}
 use Rattle.gr_program.specs.Rounds.{gathered, state_after}
 use Rattle.gr_program.proofs.Recompute.{source-degree, values-kept, inactive-recomputed}
 use Rattle.gr_agree.specs.Truth.{Truth, edge_list, true_outdegree, hidden}

@@ -3,7 +3,8 @@ use Rattle.std.proofs.Common.{◌≡◌, ◌≢◌, ℕ, ◌+◌, ◌<◌, [], t
 use Rattle.std.specs.Prelude.{IsTrue, count_by, if◌then◌else◌}
 use Rattle.std.proofs.Math.Bool.{and-true}
 use Rattle.gr_base.specs.Rising.{has}
-use Rattle.gr_program.specs.Program.{Program, ProgramLaws}
+use Rattle.gr_program.specs.Program.{Program}
+use Rattle.gr_program.specs.ProgramLaws.{ProgramLaws}
 use Rattle.gr_program.specs.Rounds.{State, state_after, last_round}
 use Rattle.gr_log.specs.Log.{committed_log}
 use Rattle.gr_sched.specs.declared.event.Event.{Event}

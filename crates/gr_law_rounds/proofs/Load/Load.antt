@@ -24,7 +24,8 @@ use Rattle.gr_log.specs.Log.{Log, empty_log}
 use Rattle.gr_log.specs.Directory.{Entry, entry_of, with_items, directory_in, kept_edges, edges_in}
 use Rattle.gr_batch.specs.declared.stage.Stage.{Stage}
 use Rattle.gr_batch.specs.declared.stage.Stage.TheVariants as stage
-use Rattle.gr_batch.specs.Stages.{place_in, is_stage, is_end}
+use Rattle.gr_batch.specs.Stages.{is_stage, is_end}
+use Rattle.gr_batch.specs.Order.{place_in}
 use Rattle.gr_batch.specs.Bodies.{is_of}
 use Rattle.gr_view.specs.declared.coordinator.Mode.{Mode}
 use Rattle.gr_view.specs.declared.coordinator.Mode.TheVariants as mode

@@ -8,7 +8,8 @@ use Rattle.gr_base.proofs.Rising.{filter-rises}
 use Rattle.gr_program.specs.Program.{Program}
 use Rattle.gr_log.specs.Directory.{Entry, directory_in, edges_in, edge_of, kept_edges, with_items}
 use Rattle.gr_cluster.specs.Tables.{Cluster, log}
-use Rattle.gr_cluster.specs.GraphIn.{Degrees, graph_of, unretired, logged, directory_of, graph_in}
+use Rattle.gr_cluster.specs.GraphIn.{Degrees, graph_of, logged, graph_in}
+use Rattle.gr_cluster.specs.Directory.{unretired, directory_of}
 use Rattle.gr_agree.specs.Truth.{Truth, edge_list, held, place_of, arcs_at, true_entry, entries_at}
 use Rattle.gr_agree.specs.Logs.{Sound, LogsHold}
 use Rattle.gr_agree.specs.Agree.{Agree}

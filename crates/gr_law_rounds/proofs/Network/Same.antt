@@ -10,10 +10,12 @@ use Rattle.gr_base.proofs.Rising.{rises-nil}
 use Rattle.gr_program.specs.Program.{Program}
 use Rattle.gr_copies.specs.declared.view.RebuildView.{RebuildView}
 use Rattle.gr_log.specs.Log.{Log, empty_log}
-use Rattle.gr_log.specs.Directory.{directory_in, edges_in, KeepsEachOnce}
+use Rattle.gr_log.specs.Directory.{directory_in, edges_in}
+use Rattle.gr_agree.specs.Logs.{KeepsEachOnce}
 use Rattle.gr_batch.specs.declared.batch.Batch.{Batch}
 use Rattle.gr_batch.specs.declared.stage.Stage.{Stage}
-use Rattle.gr_batch.specs.Stages.{place_in, is_end}
+use Rattle.gr_batch.specs.Stages.{is_end}
+use Rattle.gr_batch.specs.Order.{place_in}
 use Rattle.gr_view.specs.declared.coordinator.Coordinator.{Coordinator}
 use Rattle.gr_view.specs.declared.coordinator.Mode.TheVariants as mode
 use Rattle.gr_view.specs.Modes.{is_rebuild}

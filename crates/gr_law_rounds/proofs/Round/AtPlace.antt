@@ -6,12 +6,14 @@ use Rattle.gr_base.specs.declared.records.NumberedEdge.{NumberedEdge}
 use Rattle.gr_base.specs.Rising.{has}
 use Rattle.gr_base.specs.Places.{without_place}
 use Rattle.gr_program.specs.declared.copy.VertexCopy.{VertexCopy}
-use Rattle.gr_program.specs.Program.{Program, ProgramLaws}
+use Rattle.gr_program.specs.Program.{Program}
+use Rattle.gr_program.specs.ProgramLaws.{ProgramLaws}
 use Rattle.gr_copies.specs.declared.view.RebuildView.{RebuildView}
 use Rattle.gr_batch.specs.declared.batch.Batch.{Batch}
 use Rattle.gr_batch.specs.declared.stage.Stage.{Stage}
 use Rattle.gr_batch.specs.declared.stage.Stage.TheVariants as stage
-use Rattle.gr_batch.specs.Stages.{place_in, code_of, is_end}
+use Rattle.gr_batch.specs.Stages.{code_of, is_end}
+use Rattle.gr_batch.specs.Order.{place_in}
 use Rattle.gr_batch.specs.Bodies.{is_of, stage_of_body, values_of, signals_of, calls_of}
 use Rattle.gr_view.specs.declared.coordinator.Coordinator.{Coordinator}
 use Rattle.gr_view.specs.declared.coordinator.Mode.TheVariants as mode

@@ -2,9 +2,11 @@
 use Rattle.std.proofs.Common.{◌≡◌, ℕ, ◌+◌, ◌<◌, ◌≤◌, [], false, refl, sym, ap, ◌∙◌, subst, arith, Some}
 use Rattle.std.specs.Prelude.{IsTrue, if◌then◌else◌}
 use Rattle.std.specs.List.{AllByRecursion as Each}
-use Rattle.gr_program.specs.Program.{Program, ProgramLaws}
+use Rattle.gr_program.specs.Program.{Program}
+use Rattle.gr_program.specs.ProgramLaws.{ProgramLaws}
 use Rattle.gr_batch.specs.declared.stage.Stage.{Stage}
-use Rattle.gr_batch.specs.Stages.{place_in, is_end, stage_after}
+use Rattle.gr_batch.specs.Stages.{is_end, stage_after}
+use Rattle.gr_batch.specs.Order.{place_in}
 use Rattle.gr_view.specs.declared.coordinator.Mode.TheVariants as mode
 use Rattle.gr_view.specs.Modes.{is_open, is_failed, is_rebuild}
 use Rattle.gr_view.specs.Decisions.{parties}

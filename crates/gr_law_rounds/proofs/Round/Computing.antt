@@ -8,7 +8,8 @@ use Rattle.gr_base.specs.Rising.{has}
 use Rattle.gr_program.specs.declared.copy.VertexCopy.{VertexCopy}
 use Rattle.gr_program.specs.Program.{Program}
 use Rattle.gr_batch.specs.declared.stage.Stage.{Stage}
-use Rattle.gr_batch.specs.Stages.{place_in, is_end, stage_after}
+use Rattle.gr_batch.specs.Stages.{is_end, stage_after}
+use Rattle.gr_batch.specs.Order.{place_in}
 use Rattle.gr_view.specs.Modes.{is_failed, is_rebuild}
 use Rattle.gr_view.specs.Decisions.{parties}
 use Rattle.gr_rules.specs.Exchange.{Exchange, needed, unsent, passed}

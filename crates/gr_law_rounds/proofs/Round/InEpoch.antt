@@ -8,7 +8,8 @@ use Rattle.gr_program.specs.Program.{Program}
 use Rattle.gr_log.specs.Log.{Log}
 use Rattle.gr_batch.specs.declared.batch.Batch.{Batch}
 use Rattle.gr_batch.specs.declared.stage.Stage.{Stage}
-use Rattle.gr_batch.specs.Stages.{place_in, code_of, is_stage, stage_after}
+use Rattle.gr_batch.specs.Stages.{code_of, is_stage, stage_after}
+use Rattle.gr_batch.specs.Order.{place_in}
 use Rattle.gr_view.specs.Modes.{is_rebuild}
 use Rattle.gr_view.specs.Decisions.{parties}
 use Rattle.gr_rules.specs.Taken.{log_at}

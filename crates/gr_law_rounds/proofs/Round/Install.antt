@@ -7,14 +7,16 @@ use Rattle.gr_base.specs.Rising.{has}
 use Rattle.gr_program.specs.Program.{Program}
 use Rattle.gr_log.specs.Log.{Log, cut_log}
 use Rattle.gr_batch.specs.declared.stage.Stage.{Stage}
-use Rattle.gr_batch.specs.Stages.{place_in, is_end, is_stage}
+use Rattle.gr_batch.specs.Stages.{is_end, is_stage}
+use Rattle.gr_batch.specs.Order.{place_in}
 use Rattle.gr_batch.specs.Bodies.{is_of}
 use Rattle.gr_view.specs.declared.coordinator.Mode.{Mode}
 use Rattle.gr_view.specs.declared.coordinator.Mode.TheVariants as mode
 use Rattle.gr_view.specs.Modes.{is_open, is_rebuild}
 use Rattle.gr_view.specs.Decisions.{parties}
 use Rattle.gr_cluster.specs.Tables.{Host, Cluster, host, log, with_host, with_log, view_of, wanted_in}
-use Rattle.gr_cluster.specs.Stages.{stages_of, has_stage, first_stage}
+use Rattle.gr_cluster.specs.Stages.{stages_of, has_stage}
+use Rattle.gr_cluster.specs.Work.{first_stage}
 use Rattle.gr_cluster.specs.Work.{installed_host, adopted_host}
 use Rattle.gr_agree.specs.Truth.{Truth}
 use Rattle.gr_agree.specs.Hosts.{HostOpen, pending_rows, pending_arcs}

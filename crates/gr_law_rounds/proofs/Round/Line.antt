@@ -5,7 +5,8 @@ use Rattle.gr_base.specs.Rising.{has}
 use Rattle.gr_base.specs.Places.{with_place}
 use Rattle.gr_base.proofs.WithPlace.{has-with_place}
 use Rattle.gr_batch.specs.declared.stage.Stage.{Stage}
-use Rattle.gr_batch.specs.Stages.{place_in, code_of, is_end, is_stage, stage_after}
+use Rattle.gr_batch.specs.Stages.{code_of, is_end, is_stage, stage_after}
+use Rattle.gr_batch.specs.Order.{place_in}
 use Rattle.gr_view.specs.declared.coordinator.Coordinator.{Coordinator}
 use Rattle.gr_rules.specs.Exchange.{Exchange, begun}
 use Rattle.gr_cluster.specs.Tables.{Host}

@@ -2,7 +2,8 @@
 use Rattle.std.proofs.Common.{◌≡◌, ◌+◌, true, false, cond, ◌||◌, nat_lt, refl, sym, ap, ◌∙◌}
 use Rattle.gr_batch.specs.declared.stage.Stage.{Stage}
 use Rattle.gr_batch.specs.declared.stage.Stage.TheVariants as stage
-use Rattle.gr_batch.specs.Stages.{place_in, code_of, is_stage, is_end, stage_after}
+use Rattle.gr_batch.specs.Stages.{code_of, is_stage, is_end, stage_after}
+use Rattle.gr_batch.specs.Order.{place_in}
 use Rattle.gr_law_rounds.proofs.Round.Codes.{same-code}
 use Rattle.gr_law_rounds.proofs.Round.AtPlace.{IsRoundStage}
 

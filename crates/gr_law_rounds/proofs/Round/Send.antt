@@ -1,8 +1,10 @@
 -- Sending a batch of a round keeps the invariant.
 use Rattle.std.proofs.Common.{◌≡◌, ℕ, ◌+◌, ◌≤◌, true, false, cond, refl, sym, ap, ◌∙◌, subst, arith, Some}
-use Rattle.gr_program.specs.Program.{Program, ProgramLaws}
+use Rattle.gr_program.specs.Program.{Program}
+use Rattle.gr_program.specs.ProgramLaws.{ProgramLaws}
 use Rattle.gr_batch.specs.declared.stage.Stage.{Stage}
-use Rattle.gr_batch.specs.Stages.{place_in, code_of, is_end}
+use Rattle.gr_batch.specs.Stages.{code_of, is_end}
+use Rattle.gr_batch.specs.Order.{place_in}
 use Rattle.gr_batch.specs.Bodies.{stage_of_body}
 use Rattle.gr_view.specs.declared.coordinator.Mode.TheVariants as mode
 use Rattle.gr_view.specs.Modes.{is_rebuild}

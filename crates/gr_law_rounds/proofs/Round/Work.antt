@@ -1,13 +1,14 @@
 -- A work of a place where no rebuild is open keeps the invariant.
 use Rattle.std.proofs.Common.{◌≡◌, ℕ, ◌+◌, ◌≤◌, true, false, cond, refl, sym, ap, ◌∙◌, arith, Option, Some, None}
-use Rattle.gr_program.specs.Program.{Program, ProgramLaws}
-use Rattle.gr_batch.specs.Stages.{place_in}
+use Rattle.gr_program.specs.Program.{Program}
+use Rattle.gr_program.specs.ProgramLaws.{ProgramLaws}
+use Rattle.gr_batch.specs.Order.{place_in}
 use Rattle.gr_sched.specs.declared.event.Event.TheVariants as event
 use Rattle.gr_view.specs.declared.coordinator.Mode.{Mode}
 use Rattle.gr_view.specs.declared.coordinator.Mode.TheVariants as mode
 use Rattle.gr_view.specs.Modes.{is_over, is_failed, is_rebuild}
 use Rattle.gr_cluster.specs.Tables.{Host, Cluster, host, view_of, wanted_in}
-use Rattle.gr_cluster.specs.Stages.{first_stage}
+use Rattle.gr_cluster.specs.Work.{first_stage}
 use Rattle.gr_cluster.specs.Todo.{todo}
 use Rattle.gr_cluster.specs.Work.{worked, worked_at}
 use Rattle.gr_cluster.specs.Step.{step}

@@ -9,7 +9,8 @@ use Rattle.gr_base.specs.declared.records.Edge.{Edge}
 use Rattle.gr_base.specs.Places.{IsPlaces, below}
 use Rattle.gr_base.specs.Rising.{has}
 use Rattle.gr_base.proofs.Ranges.{range-within}
-use Rattle.gr_program.specs.Program.{Program, ProgramLaws}
+use Rattle.gr_program.specs.Program.{Program}
+use Rattle.gr_program.specs.ProgramLaws.{ProgramLaws}
 use Rattle.gr_batch.specs.declared.outcome.Outcome.{Outcome}
 use Rattle.gr_batch.specs.declared.outcome.Outcome.TheVariants as outcome
 use Rattle.gr_sched.specs.declared.event.Event.{Event}
@@ -38,7 +39,7 @@ use Rattle.gr_law_runs.proofs.Ends.Quiet.{quiet}
 use Rattle.gr_law_runs.proofs.Ends.Runs.{AllName, NamesIfSome, StandsIn, next-names, next-stands, load-stands}
 use Rattle.gr_law_runs.proofs.Ends.Serving.{count_by-more, most, most-is, serves, serving, serving-same, serving-less, serving-all}
 use Rattle.gr_law_runs.proofs.Ends.Within.{load-live, load-losses}
-use Rattle.gr_law_runs.specs.Crashes.{is_crash_line, crash_lines}
+use Rattle.gr_law_runs.specs.CrashLines.{is_crash_line, crash_lines}
 use Rattle.gr_law_runs.proofs.Bounds.Outcomes.{step-goes}
 
 -- ---- lines

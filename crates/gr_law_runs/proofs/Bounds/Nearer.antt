@@ -1,7 +1,8 @@
 -- Each canonical event brings the end of `settle` and of `finish` nearer: fewer epochs may come, or in the same epoch less is left.
 use Rattle.std.proofs.Common.{◌≡◌, ◌<◌, ◌≤◌, arith, Some, ◌⊎◌, inl, inr, ⊎_elim}
 use Rattle.std.proofs.lemmas.Bool.{cases_lt}
-use Rattle.gr_program.specs.Program.{Program, ProgramLaws}
+use Rattle.gr_program.specs.Program.{Program}
+use Rattle.gr_program.specs.ProgramLaws.{ProgramLaws}
 use Rattle.gr_sched.specs.declared.event.Event.{Event}
 use Rattle.gr_cluster.specs.Tables.{Cluster}
 use Rattle.gr_cluster.specs.Step.{step}

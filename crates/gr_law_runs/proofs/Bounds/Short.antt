@@ -3,7 +3,8 @@ use Rattle.std.proofs.Common.{◌≡◌, ℕ, zero, suc, ◌+◌, ◌≤◌, Lis
 use Rattle.std.specs.Option.{option_or}
 use Rattle.std.proofs.Math.Nat.{max-le}
 use Rattle.std.proofs.lemmas.Bool.{cases_lt}
-use Rattle.gr_program.specs.Program.{Program, ProgramLaws}
+use Rattle.gr_program.specs.Program.{Program}
+use Rattle.gr_program.specs.ProgramLaws.{ProgramLaws}
 use Rattle.gr_sched.specs.declared.event.Event.{Event}
 use Rattle.gr_sched.specs.declared.event.Line.TheVariants as line
 use Rattle.gr_view.specs.declared.coordinator.Mode.{Mode}

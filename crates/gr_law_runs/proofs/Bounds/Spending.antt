@@ -1,6 +1,7 @@
 -- A canonical event spends of the epochs that are left.
 use Rattle.std.proofs.Common.{◌≡◌, ℕ, false, sym, subst, Some, slice_get}
-use Rattle.gr_program.specs.Program.{Program, ProgramLaws}
+use Rattle.gr_program.specs.Program.{Program}
+use Rattle.gr_program.specs.ProgramLaws.{ProgramLaws}
 use Rattle.gr_sched.specs.declared.event.Event.{Event}
 use Rattle.gr_sched.specs.declared.event.Event.TheVariants as event
 use Rattle.gr_view.specs.Modes.{is_over, is_rebuild}

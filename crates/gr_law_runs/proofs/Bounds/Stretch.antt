@@ -1,6 +1,7 @@
 -- The steps of `finish` in one epoch are no more than what is left at its start.
 use Rattle.std.proofs.Common.{◌≡◌, ℕ, zero, suc, ◌-◌, ◌≤◌, ap, ◌∙◌, sym, arith, Option, Some, None, length}
-use Rattle.gr_program.specs.Program.{Program, ProgramLaws}
+use Rattle.gr_program.specs.Program.{Program}
+use Rattle.gr_program.specs.ProgramLaws.{ProgramLaws}
 use Rattle.gr_sched.specs.declared.event.Event.{Event}
 use Rattle.gr_cluster.specs.Tables.{Cluster}
 use Rattle.gr_cluster.specs.Step.{step}

@@ -6,7 +6,8 @@ use Rattle.std.proofs.lemmas.Bool.{and_from, and_left, and_parts, leb-true, or_l
 use Rattle.gr_base.specs.Places.{below}
 use Rattle.gr_base.specs.Rising.{has}
 use Rattle.gr_base.proofs.Union.{has-union}
-use Rattle.gr_program.specs.Program.{Program, ProgramLaws}
+use Rattle.gr_program.specs.Program.{Program}
+use Rattle.gr_program.specs.ProgramLaws.{ProgramLaws}
 use Rattle.gr_log.specs.Directory.{Entry}
 use Rattle.gr_log.specs.Log.{committed_log}
 use Rattle.gr_batch.specs.declared.outcome.Outcome.{Outcome}
@@ -16,7 +17,7 @@ use Rattle.gr_sched.specs.declared.event.Event.TheVariants as event
 use Rattle.gr_view.specs.Modes.{is_over, is_rebuild}
 use Rattle.gr_view.specs.Decisions.{parties, rebuild_committed, round_committed}
 use Rattle.gr_cluster.specs.Tables.{Host, Cluster, changed_at, host, is_up, view_of, wanted_in}
-use Rattle.gr_cluster.specs.GraphIn.{directory_of}
+use Rattle.gr_cluster.specs.Directory.{directory_of}
 use Rattle.gr_cluster.specs.Network.{crashed}
 use Rattle.gr_cluster.specs.Step.{with_coordinator, step}
 use Rattle.gr_cluster.specs.Runs.{is_commit}

@@ -13,7 +13,7 @@ use Rattle.gr_copies.proofs.Selecting.{filter-filter}
 use Rattle.gr_log.specs.Directory.{Entry, directory_in, with_items}
 use Rattle.gr_rules.specs.Lost.{lost_of}
 use Rattle.gr_cluster.specs.Tables.{Cluster, log}
-use Rattle.gr_cluster.specs.GraphIn.{unretired, directory_of}
+use Rattle.gr_cluster.specs.Directory.{unretired, directory_of}
 use Rattle.gr_cluster.specs.Step.{lost_list}
 use Rattle.gr_agree.specs.Truth.{Truth, held, true_entry, entries_at}
 use Rattle.gr_agree.specs.Agree.{Agree}

@@ -1,6 +1,7 @@
 -- Every event leaves a cluster that agrees with a committed state of the same graph.
 use Rattle.std.proofs.Common.{◌≡◌, true, false, ◌==◌, refl, sym, ◌∙◌, eqb-true, eq-eqb}
-use Rattle.gr_program.specs.Program.{Program, ProgramLaws}
+use Rattle.gr_program.specs.Program.{Program}
+use Rattle.gr_program.specs.ProgramLaws.{ProgramLaws}
 use Rattle.gr_sched.specs.declared.event.Event.{Event}
 use Rattle.gr_sched.specs.declared.event.Event.TheVariants as event
 use Rattle.gr_view.specs.Modes.{is_rebuild}

@@ -5,7 +5,8 @@ use Rattle.std.proofs.lemmas.List.{length-take, get_or-take}
 use Rattle.std.proofs.lemmas.List.Elements.{All-take}
 use Rattle.gr_base.specs.declared.records.Edge.{Edge}
 use Rattle.gr_base.specs.Places.{IsPlaces, below}
-use Rattle.gr_program.specs.Program.{Program, ProgramLaws}
+use Rattle.gr_program.specs.Program.{Program}
+use Rattle.gr_program.specs.ProgramLaws.{ProgramLaws}
 use Rattle.gr_batch.specs.declared.batch.Batch.{Batch}
 use Rattle.gr_sched.specs.declared.event.Event.{Event}
 use Rattle.gr_sched.specs.declared.event.Line.{Line}

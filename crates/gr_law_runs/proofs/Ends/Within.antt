@@ -7,7 +7,8 @@ use Rattle.gr_base.specs.declared.records.Edge.{Edge}
 use Rattle.gr_base.specs.Places.{below}
 use Rattle.gr_base.specs.Rising.{has, includes}
 use Rattle.gr_base.proofs.Ranges.{has-range}
-use Rattle.gr_program.specs.Program.{Program, ProgramLaws}
+use Rattle.gr_program.specs.Program.{Program}
+use Rattle.gr_program.specs.ProgramLaws.{ProgramLaws}
 use Rattle.gr_log.specs.Directory.{Entry}
 use Rattle.gr_copies.specs.Holders.{first_holders}
 use Rattle.gr_sched.specs.declared.event.Event.{Event}
@@ -15,7 +16,7 @@ use Rattle.gr_sched.specs.declared.event.Line.{Line}
 use Rattle.gr_view.specs.declared.coordinator.Mode.TheVariants as mode
 use Rattle.gr_cluster.specs.Tables.{Cluster, is_up}
 use Rattle.gr_cluster.specs.Load.{Setting, load}
-use Rattle.gr_cluster.specs.GraphIn.{directory_of}
+use Rattle.gr_cluster.specs.Directory.{directory_of}
 use Rattle.gr_cluster.specs.Step.{lost_list}
 use Rattle.gr_cluster.specs.Runs.{Position, next_event, next_position, position_by, position_after}
 use Rattle.gr_cluster.specs.Budget.{Losses, no_losses, are_borne, losses_by, losses_after, IsWithinBudget}

@@ -1,7 +1,8 @@
 -- Every event leaves a cluster that agrees with a committed state of the same graph, but for the works and the barriers of a rebuild.
 use Rattle.std.proofs.Common.{◌≡◌, ℕ, List, [], ◌∷◌, true, false, ◌==◌, refl, sym, ◌∙◌, subst, Option, Some, None, eqb-true, eq-eqb}
 use Rattle.std.specs.Prelude.{IsTrue}
-use Rattle.gr_program.specs.Program.{Program, ProgramLaws}
+use Rattle.gr_program.specs.Program.{Program}
+use Rattle.gr_program.specs.ProgramLaws.{ProgramLaws}
 use Rattle.gr_batch.specs.declared.outcome.Outcome.{Outcome}
 use Rattle.gr_sched.specs.declared.event.Event.{Event}
 use Rattle.gr_sched.specs.declared.event.Event.TheVariants as event

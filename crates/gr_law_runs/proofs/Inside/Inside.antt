@@ -1,6 +1,7 @@
 -- Every event that is no crash and stays in its epoch keeps what is committed and the invariant.
 use Rattle.std.proofs.Common.{◌≡◌, ℕ, ◌+◌, List, [], ◌∷◌, true, false, refl, arith, Option, Some, None}
-use Rattle.gr_program.specs.Program.{Program, ProgramLaws}
+use Rattle.gr_program.specs.Program.{Program}
+use Rattle.gr_program.specs.ProgramLaws.{ProgramLaws}
 use Rattle.gr_batch.specs.declared.outcome.Outcome.{Outcome}
 use Rattle.gr_sched.specs.declared.event.Event.{Event}
 use Rattle.gr_sched.specs.declared.event.Event.TheVariants as event

@@ -13,7 +13,8 @@ use Rattle.gr_view.specs.declared.coordinator.Coordinator.{Coordinator}
 use Rattle.gr_view.specs.Modes.{is_open, is_rebuild}
 use Rattle.gr_rules.specs.Exchange.{Exchange, begun, computed, sent_to, unsent}
 use Rattle.gr_cluster.specs.Tables.{Host}
-use Rattle.gr_cluster.specs.Stages.{stages_of, has_stage, first_stage}
+use Rattle.gr_cluster.specs.Stages.{stages_of, has_stage}
+use Rattle.gr_cluster.specs.Work.{first_stage}
 use Rattle.gr_cluster.specs.Todo.{others}
 use Rattle.gr_cluster.specs.Work.{installed_host, adopted_host, exchange_of, computed_host, sent_host}
 use Rattle.gr_cluster.specs.Left.{left_at}

@@ -7,7 +7,8 @@ use Rattle.gr_base.specs.Rising.{has}
 use Rattle.gr_base.specs.Places.{with_place}
 use Rattle.gr_batch.specs.declared.stage.Stage.{Stage}
 use Rattle.gr_batch.specs.declared.stage.Stage.TheVariants as stage
-use Rattle.gr_batch.specs.Stages.{place_in, is_stage, is_end, stage_after}
+use Rattle.gr_batch.specs.Stages.{is_stage, is_end, stage_after}
+use Rattle.gr_batch.specs.Order.{place_in}
 use Rattle.gr_rules.specs.Exchange.{Exchange, begun}
 use Rattle.gr_lists.proofs.Tests.{by_test}
 use Rattle.gr_base.proofs.WithPlace.{has-with_place}

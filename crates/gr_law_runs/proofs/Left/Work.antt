@@ -4,7 +4,8 @@ use Rattle.std.proofs.lemmas.List.{length-append}
 use Rattle.std.proofs.lemmas.Bool.{both_ways}
 use Rattle.gr_base.specs.Rising.{has}
 use Rattle.gr_program.specs.Program.{Program}
-use Rattle.gr_batch.specs.Stages.{place_in, is_end}
+use Rattle.gr_batch.specs.Stages.{is_end}
+use Rattle.gr_batch.specs.Order.{place_in}
 use Rattle.gr_batch.specs.declared.stage.Stage.{Stage}
 use Rattle.gr_view.specs.declared.coordinator.Mode.{Mode}
 use Rattle.gr_view.specs.declared.coordinator.Mode.TheVariants as mode

@@ -6,7 +6,8 @@ use Rattle.std.proofs.lemmas.Bool.{not-false}
 use Rattle.gr_base.specs.declared.records.Edge.{Edge}
 use Rattle.gr_base.specs.Rising.{has, union}
 use Rattle.gr_log.specs.Log.{committed_log}
-use Rattle.gr_program.specs.Program.{Program, ProgramLaws}
+use Rattle.gr_program.specs.Program.{Program}
+use Rattle.gr_program.specs.ProgramLaws.{ProgramLaws}
 use Rattle.gr_program.proofs.LastRound.{last_round-least}
 use Rattle.gr_batch.specs.declared.batch.Batch.{Batch}
 use Rattle.gr_sched.specs.declared.event.Event.{Event}

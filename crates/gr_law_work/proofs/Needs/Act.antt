@@ -2,17 +2,18 @@
 use Rattle.std.proofs.Common.{◌+◌, Bool, true, cond, ◌≡◌, ◌<◌, ◌≤◌, ℕ, false, not, nat_lt, map, refl, sym, ap, ◌∙◌, subst, arith, Some, le-ltb}
 use Rattle.std.specs.Prelude.{IsSome, ⊤}
 use Rattle.gr_base.specs.Rising.{has}
-use Rattle.gr_program.specs.Program.{Program, ProgramLaws}
+use Rattle.gr_program.specs.Program.{Program}
+use Rattle.gr_program.specs.ProgramLaws.{ProgramLaws}
 use Rattle.gr_rows.specs.Layers.{vertex_of}
 use Rattle.gr_view.specs.declared.coordinator.Coordinator.{Coordinator}
 use Rattle.gr_view.specs.declared.coordinator.Mode.TheVariants as mode
 use Rattle.gr_view.specs.Modes.{is_rebuild}
-use Rattle.gr_rules.specs.Todo.{todo_in_round}
+use Rattle.gr_round.specs.Todo.{todo_in_round}
 use Rattle.gr_low.specs.Sources.{SourcesReady}
 use Rattle.gr_rules.specs.Inbox.{bodies}
 use Rattle.gr_batch.specs.declared.stage.Stage.{Stage}
 use Rattle.gr_batch.specs.declared.stage.Stage.TheVariants as stage
-use Rattle.gr_batch.specs.Stages.{place_in}
+use Rattle.gr_batch.specs.Order.{place_in}
 use Rattle.gr_view.specs.Decisions.{parties}
 use Rattle.gr_round.specs.Line.{is_past_update}
 use Rattle.gr_round.specs.Needs.{ValuesFit, NewValuesAreStaged}

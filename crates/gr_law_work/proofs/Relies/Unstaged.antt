@@ -1,7 +1,7 @@
 -- Until the end of a rebuild is computed nothing is staged: both layers of a place are the same.
 use Rattle.std.proofs.Common.{◌≡◌, ◌≤◌, ◌+◌, ℕ, true, false, cond, sym, ap, ◌∙◌, arith, Some}
 use Rattle.gr_program.specs.Program.{Program}
-use Rattle.gr_batch.specs.Stages.{place_in}
+use Rattle.gr_batch.specs.Order.{place_in}
 use Rattle.gr_view.specs.Modes.{is_rebuild}
 use Rattle.gr_cluster.specs.Tables.{Host, Cluster, host}
 use Rattle.gr_agree.specs.Truth.{Truth}

@@ -60,7 +60,15 @@ fn a_line_for_each_outcome_of_work(rt: HostRuntime) -> Result<(), Fail> {
     )?;
     assert_eq!(rt;
         into.as_slice(),
-        b"crash 1 idle\nwork 2 install 3\nwork 2 adopt 4\nwork 2 compute signal\nwork 2 send 8 ask to 0\nwork 0 append 66\nwork 0 ready 1\nwork 0 wait call 3\n".as_slice()
+        b"crash 1 idle\n\
+          work 2 install 3\n\
+          work 2 adopt 4\n\
+          work 2 compute signal\n\
+          work 2 send 8 ask to 0\n\
+          work 0 append 66\n\
+          work 0 ready 1\n\
+          work 0 wait call 3\n"
+            .as_slice()
     );
     Ok(())
 }
@@ -96,7 +104,16 @@ fn a_line_for_each_other_outcome(rt: HostRuntime) -> Result<(), Fail> {
     push_outcome::<Amount, Amount>(alloc, &mut into, Event::Discard, &Outcome::Discarded(6))?;
     assert_eq!(rt;
         into.as_slice(),
-        b"dropped 17\ncrash 63 kept 4\nbarrier failed 0 3\nbarrier committed 2 round 1 due 5\nbarrier notready 1\nrecover epoch 3 rebirth 0 3\nrepair epoch 5\nrecover lost 1\ndiscard epoch 6\n".as_slice()
+        b"dropped 17\n\
+          crash 63 kept 4\n\
+          barrier failed 0 3\n\
+          barrier committed 2 round 1 due 5\n\
+          barrier notready 1\n\
+          recover epoch 3 rebirth 0 3\n\
+          repair epoch 5\n\
+          recover lost 1\n\
+          discard epoch 6\n"
+            .as_slice()
     );
     Ok(())
 }
@@ -153,7 +170,11 @@ fn the_items_of_a_delivered_batch(rt: HostRuntime) -> Result<(), Fail> {
     )?;
     assert_eq!(rt;
         into.as_slice(),
-        b"delivered 12 from 1 to 0 epoch 3 round 1 gather taken 5:2\ndelivered 12 from 1 to 0 epoch 3 round 1 update stale 0:3:1 9:4:0\ndelivered 12 from 1 to 0 epoch 3 round 1 call down 1 20\ndelivered 12 from 1 to 0 epoch 3 round 1 grant taken 7:4:5:1:0,1,63:-:1 8:4:5:1:0,1,63:6:1\n".as_slice()
+        b"delivered 12 from 1 to 0 epoch 3 round 1 gather taken 5:2\n\
+          delivered 12 from 1 to 0 epoch 3 round 1 update stale 0:3:1 9:4:0\n\
+          delivered 12 from 1 to 0 epoch 3 round 1 call down 1 20\n\
+          delivered 12 from 1 to 0 epoch 3 round 1 grant taken 7:4:5:1:0,1,63:-:1 8:4:5:1:0,1,63:6:1\n"
+            .as_slice()
     );
     Ok(())
 }

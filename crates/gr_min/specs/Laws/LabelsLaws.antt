@@ -1,7 +1,7 @@
 -- The laws of the program.
 use Rattle.std.specs.Prelude.{refl}
 use Rattle.std.proofs.Common.{ap}
-use Rattle.gr_program.specs.Program.{ProgramLaws}
+use Rattle.gr_program.specs.ProgramLaws.{ProgramLaws}
 use Rattle.gr_sum.specs.Amount.{amount}
 use Rattle.gr_min.specs.Labels.{labels}
 use Rattle.gr_min.specs.Laws.Least.{min-kept, min-assoc, min-comm, infinity-min, id-kept}

@@ -1,7 +1,7 @@
 -- The laws of the program.
 use Rattle.std.specs.Prelude.{ℕ, ◌+◌, ◌==◌, refl}
 use Rattle.std.proofs.Common.{ap}
-use Rattle.gr_program.specs.Program.{ProgramLaws}
+use Rattle.gr_program.specs.ProgramLaws.{ProgramLaws}
 use Rattle.gr_sum.specs.Laws.Capped.{capped-kept}
 use Rattle.gr_min.specs.Distance.{distance}
 use Rattle.gr_min.specs.Shortest.{shortest}

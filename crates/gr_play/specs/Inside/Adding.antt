@@ -1,7 +1,8 @@
 -- What a call adds to the trace.
 use Rattle.std.specs.Prelude.{ℕ, ◌≡◌, ◌≤◌, ◌++◌, Bool, false, List, IsTrue}
 use Rattle.gr_outside.specs.Files.{FilesSeen}
-use Rattle.gr_play.specs.Tracing.{Traces, CountsNoLoad}
+use Rattle.gr_play.specs.Tracing.{Traces}
+use Rattle.gr_play.specs.TracedSteps.{CountsNoLoad}
 
 -- whatever the trace holds, it holds this text besides
 abbrev pub GainsTrace : FilesSeen → FilesSeen → List ℕ → Type 0

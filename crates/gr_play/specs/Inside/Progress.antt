@@ -12,7 +12,7 @@ use Rattle.gr_cluster.specs.Runs.{Position, is_commit, next_event, next_position
 use Rattle.gr_cluster.specs.TraceText.{trace_line}
 use Rattle.gr_play.specs.Playing.{Plays}
 use Rattle.gr_play.specs.Inside.Adding.{Adds}
-use Rattle.gr_play.specs.Tracing.{text_of_steps}
+use Rattle.gr_play.specs.TracedSteps.{text_of_steps}
 
 -- the line that canonical events are played for: through a commit, or to the end
 abbrev pub canonical_line : Bool → Line

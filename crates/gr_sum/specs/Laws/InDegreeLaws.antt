@@ -1,6 +1,6 @@
 -- The laws of the program.
 use Rattle.std.specs.Prelude.{◌+◌, refl}
-use Rattle.gr_program.specs.Program.{ProgramLaws}
+use Rattle.gr_program.specs.ProgramLaws.{ProgramLaws}
 use Rattle.gr_sum.specs.Laws.Capped.{capped-kept}
 use Rattle.gr_sum.specs.Laws.Adding.{added-assoc, added-comm, added-unit}
 use Rattle.gr_sum.specs.InDegree.{in_degree}

@@ -1,6 +1,7 @@
 use Rattle.std.proofs.Common.{◌≡◌, ◌∙◌, ℕ, sym, ap, arith}
 use Rattle.std.proofs.lemmas.Nat.{one_shl}
-use Rattle.gr_base.specs.Places.{members_from, word_of}
+use Rattle.gr_base.specs.Places.{word_of}
+use Rattle.gr_base.specs.PlaceBits.{members_from}
 use Rattle.gr_base.specs.Rising.{has}
 use Rattle.gr_base.proofs.PlaceSets.{places-has}
 use Rattle.gr_batch.proofs.Words.{word-fits, word-with, word-without}

@@ -1,5 +1,6 @@
 use Rattle.std.proofs.Common.{◌≡◌, ◌<◌}
-use Rattle.gr_base.specs.Places.{IsPlaces, members_from, word_of}
+use Rattle.gr_base.specs.Places.{IsPlaces, word_of}
+use Rattle.gr_base.specs.PlaceBits.{members_from}
 use Rattle.gr_base.specs.Rising.{has}
 use Rattle.gr_batch.proofs.holders.word_of.Given as goal
 

@@ -36,7 +36,7 @@ mark_ends-requires-clause-numbers c =
     let p = c.loop-p.p in
     let place = place_at_load c.args.places cut.0 es in
     let is : c.at.result.now ≡ row place es p = c.at.ensures ∙ ap (λ l. slice_index_or l p []) cut.1 ∙ rows-at place c.args.places es p [] c.loop-p-test.true in
-    subst (All (λ n. n < length c.as_slice.result.now)) (sym is) (row-bound place p es 0 (length c.as_slice.result.now) es (omega (arith, ap length c.as_slice.ensures)))
+    subst (All (λ n. n < length c.as_slice-edges.result.now)) (sym is) (row-bound place p es 0 (length c.as_slice-edges.result.now) es (omega (arith, ap length c.as_slice-edges.ensures)))
 
 pub loop-p-preserved : goal.loop-p-preserved
 loop-p-preserved c =
@@ -45,7 +45,7 @@ loop-p-preserved c =
     let p = c.loop-p.p in
     let new = c.mark_ends.new.sets in
     let rest = drop (length new) c.loop-p.sets.items in
-    let marked = rw (c.as_slice.ensures, c.at.ensures, c.as_mut_slice.ensures.value) at c.mark_ends.ensures in
+    let marked = rw (c.as_slice-edges.ensures, c.at.ensures, c.as_mut_slice.ensures.value) at c.mark_ends.ensures in
     let len : c.loop-p.sets.len ≡ length new = omega (arith, c.as_mut_slice.ensures.len, c.mark_ends.ensures.long) in
     subst (AreEnds c.args.places (p + 1) es c.args.cut.now vs) (sym (ap (λ n. take n (new ++ rest)) len ∙ take-append_seam new rest))
     (ends-more c.args.places p es c.args.cut.now vs c.loop-p.sets.items new c.loop-p.invariant marked)

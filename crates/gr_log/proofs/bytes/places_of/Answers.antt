@@ -1,5 +1,6 @@
 use Rattle.std.proofs.Common.{◌≡◌, ◌∙◌, ℕ, List, sym, ap, arith}
-use Rattle.gr_base.specs.Places.{is_bit, with_place}
+use Rattle.gr_base.specs.Places.{with_place}
+use Rattle.gr_base.specs.PlaceBits.{is_bit}
 use Rattle.gr_base.proofs.Bits.{bit-on, bit-off}
 use Rattle.gr_base.proofs.PlaceSets.{members_to, members_to-with, members_to-same, members_to-end}
 use Rattle.gr_log.proofs.bytes.places_of.Goals as goal

@@ -1,5 +1,5 @@
 use Rattle.std.proofs.Common.{◌≡◌}
-use Rattle.gr_base.specs.Places.{is_bit}
+use Rattle.gr_base.specs.PlaceBits.{is_bit}
 use Rattle.gr_base.proofs.PlaceSets.{members_to}
 use Rattle.gr_log.proofs.bytes.places_of.Given as goal
 

@@ -1,6 +1,7 @@
 use Rattle.std.proofs.Common.{◌≡◌, ◌∙◌, ℕ, true, false, List, sym, ap, arith}
 use Rattle.gr_base.specs.Rising.{has}
-use Rattle.gr_base.specs.Places.{is_bit, with_place, members_from}
+use Rattle.gr_base.specs.Places.{with_place}
+use Rattle.gr_base.specs.PlaceBits.{is_bit, members_from}
 use Rattle.gr_base.proofs.Bits.{places-set}
 use Rattle.gr_base.proofs.PlaceSets.{members_to, members_to-with, members_to-same, members_to-end, places-has}
 use Rattle.gr_log.proofs.bytes.word_of.Goals as goal

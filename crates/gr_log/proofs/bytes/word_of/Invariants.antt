@@ -1,6 +1,7 @@
 use Rattle.std.proofs.Common.{◌≡◌, ◌<◌}
 use Rattle.gr_base.specs.Rising.{has}
-use Rattle.gr_base.specs.Places.{IsPlaces, members_from, is_bit}
+use Rattle.gr_base.specs.Places.{IsPlaces}
+use Rattle.gr_base.specs.PlaceBits.{members_from, is_bit}
 use Rattle.gr_base.proofs.PlaceSets.{members_to}
 use Rattle.gr_log.proofs.bytes.word_of.Given as goal
 

@@ -5,7 +5,8 @@ use Rattle.std.specs.Option.{option_copied}
 use Rattle.gr_batch.specs.Telling.{telling}
 use Rattle.gr_play.specs.Playing.{start, Plays}
 use Rattle.gr_play.specs.Inside.Adding.{Adds}
-use Rattle.gr_play.specs.Tracing.{text_of_steps, TracesPart}
+use Rattle.gr_play.specs.Tracing.{TracesPart}
+use Rattle.gr_play.specs.TracedSteps.{text_of_steps}
 use Rattle.gr_play.proofs.Adding.{part-traced}
 use Rattle.gr_play.proofs.Positions.{Plays-nothing}
 use Rattle.gr_play.proofs.Reached.{PlaysTo-whole}

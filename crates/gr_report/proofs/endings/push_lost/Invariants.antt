@@ -1,6 +1,6 @@
 use Rattle.std.proofs.Common.{◌≡◌, ◌++◌, take, codes, decimal, length}
 use Rattle.std.specs.Prelude.{flat_map}
-use Rattle.gr_sched.specs.Text.{word}
+use Rattle.gr_sched.specs.Words.{word}
 use Rattle.gr_report.proofs.endings.push_lost.Given as goal
 
 abbrev pub invariant-loop-v : goal.invariant-loop-v

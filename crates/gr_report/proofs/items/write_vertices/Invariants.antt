@@ -1,5 +1,5 @@
 use Rattle.std.proofs.Common.{◌≡◌, ◌++◌, take}
-use Rattle.gr_sched.specs.Text.{words}
+use Rattle.gr_sched.specs.EventText.{words}
 use Rattle.gr_report.proofs.items.write_vertices.Given as goal
 
 abbrev pub invariant-loop-v : goal.invariant-loop-v

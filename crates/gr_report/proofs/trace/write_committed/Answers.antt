@@ -1,5 +1,5 @@
 use Rattle.std.proofs.Common.{◌++◌, codes}
-use Rattle.gr_sched.specs.Text.{word}
+use Rattle.gr_sched.specs.Words.{word}
 use Rattle.gr_report.proofs.Appending.{on_ok-append}
 use Rattle.gr_report.proofs.trace.write_committed.Goals as goal
 

@@ -1,5 +1,5 @@
 use Rattle.std.proofs.Common.{arith}
-use Rattle.gr_sched.specs.Text.{word}
+use Rattle.gr_sched.specs.Words.{word}
 use Rattle.gr_sched.proofs.Below.{told-none, told-more, told-all}
 use Rattle.gr_sched.proofs.print.write_places.Goals as goal
 

@@ -1,7 +1,7 @@
 use Rattle.std.proofs.Common.{◌≡◌, ◌<◌, ◌++◌, ltb}
 use Rattle.std.specs.List.{filter}
 use Rattle.gr_base.specs.Places.{IsPlaces}
-use Rattle.gr_sched.specs.Text.{words}
+use Rattle.gr_sched.specs.EventText.{words}
 use Rattle.gr_sched.proofs.print.write_places.Given as goal
 
 abbrev pub invariant-loop-p : goal.invariant-loop-p

@@ -1,7 +1,8 @@
-use Rattle.std.proofs.Common.{◌≡◌, ◌<◌, length, slice_index, slice_index_or, refl}
-use Rattle.std.proofs.lemmas.List.{length-map}
+use Rattle.std.proofs.Common.{◌≡◌, ◌∙◌, ◌<◌, length, slice_index, slice_index_or, refl}
+use Rattle.std.proofs.lemmas.List.{length-map, get_or-map}
 use Rattle.std.proofs.lemmas.List.Elements.{All-push}
 use Rattle.gr_base.specs.declared.records.Edge.{Edge}
+use Rattle.gr_edges.specs.declared.graph.VertexInfo.{VertexInfo}
 use Rattle.gr_edges.specs.Vertices.{ids, id_of}
 use Rattle.gr_uncut.specs.Index.{arc_of, with_id}
 use Rattle.gr_uncut.proofs.Positions.{maps-more}
@@ -14,6 +15,7 @@ loop-edge-preserved c =
     let vertices = c.args.graph.now.vertices in
     let vs = ids vertices in
     let none : Edge = record { src = 0; dst = 0; weight = 0 } in
+    let vertex : VertexInfo = record { id = 0; indeg = 0; outdeg = 0 } in
     let i = c.loop-edge.edge-index in
     let inv = c.loop-edge.invariant in
     let lt : i < length es = rw (← c.as_slice-edge-items.ensures) c.loop-edge-test.true in
@@ -22,8 +24,8 @@ loop-edge-preserved c =
     let target = c.position_of-target.result in
     let source_in : source < length vertices = rw (← c.as_slice-vertices.ensures) c.position_of-source.ensures.within in
     let target_in : target < length vertices = rw (← c.as_slice-vertices.ensures) c.position_of-target.ensures.within in
-    let source_is : slice_index vs source ≡ (slice_index_or es i none).src = rw (← c.as_slice-vertices.ensures, ← c.as_slice-edge-items.ensures) c.position_of-source.ensures.found in
-    let target_is : slice_index vs target ≡ (slice_index_or es i none).dst = rw (← c.as_slice-vertices.ensures, ← c.as_slice-edge-items.ensures) c.position_of-target.ensures.found in
+    let source_is : slice_index vs source ≡ (slice_index_or es i none).src = get_or-map id_of vertices source vertex 0 source_in ∙ rw (← c.as_slice-vertices.ensures, ← c.as_slice-edge-items.ensures) (c.position_of-source.ensures.found vertex) in
+    let target_is : slice_index vs target ≡ (slice_index_or es i none).dst = get_or-map id_of vertices target vertex 0 target_in ∙ rw (← c.as_slice-vertices.ensures, ← c.as_slice-edge-items.ensures) (c.position_of-target.ensures.found vertex) in
     record {
       sources = rw c.in_ok-push.ensures.ok (record {
         within = All-push (λ k. k < length vs) c.loop-edge.sources source inv.sources.within (rw count source_in);
@@ -36,6 +38,6 @@ loop-edge-preserved c =
       arcs = rw c.in_ok-push-3.ensures.ok (record {
         within = All-push (λ a. a.source < length vs) c.loop-edge.arcs _ inv.arcs.within (rw count source_in);
         at = maps-more (with_id vs) (arc_of es) c.loop-edge.arcs es i _ none lt inv.arcs.at
-            (rw (c.as_slice-vertices.ensures, c.as_slice-edge-items.ensures) (arc-told es vertices source _ _ (slice_index_or es i none) (record { id = 0; indeg = 0; outdeg = 0 }) source_in c.vertex_count-count.ensures.degrees source_is refl refl));
+            (rw (c.as_slice-vertices.ensures, c.as_slice-edge-items.ensures) (arc-told es vertices source _ _ (slice_index_or es i none) vertex source_in c.vertex_count-count.ensures.degrees source_is refl refl));
       });
     }

@@ -1,4 +1,5 @@
-use Rattle.imitate.specs.Words.{FileNames, named}
+use Rattle.imitate.specs.Words.{FileNames}
+use Rattle.imitate.specs.Commands.{named}
 use Rattle.imitate.proofs.Quiet.{quiet-some, quiet-kept}
 use Rattle.imitate.proofs.Outcomes.{reply-told}
 use Rattle.imitate.proofs.Plans.{reply-fails}
@@ -21,5 +22,5 @@ returns-in-Err-reply g c =
       shown = tt;
       ends = tt;
       fails = reply-fails a d (g.O.Sink.seen c.args.out.now) names (quiet-kept a b first.quiet d second.kept) graph job told c.in-Err-reply.why
-          (rw (c.deref.ensures.value, c.deref-2.ensures.value) at c.in-Err-reply.ensures.refused);
+          (rw c.deref.ensures.value at c.in-Err-reply.ensures.refused);
     }

@@ -1,4 +1,4 @@
-use Rattle.std.proofs.Common.{◌<◌, ◌^◌, arith, inl, inr}
+use Rattle.std.proofs.Common.{inl, inr}
 use Rattle.gr_edges.specs.Vertices.{ids}
 use Rattle.gr_core.specs.Loaded.{setting_of}
 use Rattle.gr_cluster.specs.Load.{load}
@@ -9,35 +9,35 @@ use Rattle.imitate.proofs.played.play_program.Goals as goal
 
 pub play-ending-requires-clause-places : goal.play-ending-requires-clause-places
 play-ending-requires-clause-places g c =
-    let work = c.args.accepted.now.work in
+    let work = c.args.accepted.work in
     let fresh = loaded-fresh (g.P.VertexProgram.program_of c.args.program) (setting_of work.job) work.graph.edges (ids work.graph.vertices) c.args.program c.in-Ok.cluster c.in-Ok.ensures.cluster in
     rw (fresh.places_are, c.as_slice.ensures) c.requires.placed
 
 pub play-ending-requires-clause-flight : goal.play-ending-requires-clause-flight
 play-ending-requires-clause-flight g c =
-    let work = c.args.accepted.now.work in
+    let work = c.args.accepted.work in
     (loaded-fresh (g.P.VertexProgram.program_of c.args.program) (setting_of work.job) work.graph.edges (ids work.graph.vertices) c.args.program c.in-Ok.cluster c.in-Ok.ensures.cluster).flight
 
 pub play-ending-requires-clause-serial : goal.play-ending-requires-clause-serial
 play-ending-requires-clause-serial g c =
-    let work = c.args.accepted.now.work in
+    let work = c.args.accepted.work in
     (loaded-fresh (g.P.VertexProgram.program_of c.args.program) (setting_of work.job) work.graph.edges (ids work.graph.vertices) c.args.program c.in-Ok.cluster c.in-Ok.ensures.cluster).serial
 
 pub play-ending-requires-clause-epoch : goal.play-ending-requires-clause-epoch
 play-ending-requires-clause-epoch g c =
-    let work = c.args.accepted.now.work in
+    let work = c.args.accepted.work in
     (loaded-fresh (g.P.VertexProgram.program_of c.args.program) (setting_of work.job) work.graph.edges (ids work.graph.vertices) c.args.program c.in-Ok.cluster c.in-Ok.ensures.cluster).epoch
 
 pub play-ending-requires-clause-commits : goal.play-ending-requires-clause-commits
 play-ending-requires-clause-commits g c =
-    let work = c.args.accepted.now.work in
+    let work = c.args.accepted.work in
     (loaded-fresh (g.P.VertexProgram.program_of c.args.program) (setting_of work.job) work.graph.edges (ids work.graph.vertices) c.args.program c.in-Ok.cluster c.in-Ok.ensures.cluster).commits
 
 pub returns : goal.returns
 returns g c =
     let P = g.P.VertexProgram.program_of c.args.program in
-    let work = c.args.accepted.now.work in
-    let begin = start (load P (setting_of work.job) work.graph.edges (ids work.graph.vertices)) c.args.accepted.now.lines in
+    let work = c.args.accepted.work in
+    let begin = start (load P (setting_of work.job) work.graph.edges (ids work.graph.vertices)) c.args.accepted.lines in
     let files = g.F.Files.seen c.args.files.now in
     let files' = g.F.Files.seen c.play-ending.new.files in
     let traced = rw (c.in-Ok.ensures.cluster, c.as_slice.ensures) at c.play-ending.ensures.traced in

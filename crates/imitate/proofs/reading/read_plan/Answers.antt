@@ -1,4 +1,4 @@
-use Rattle.imitate.specs.Reading.{task_in}
+use Rattle.imitate.specs.Accepted.{task_in}
 use Rattle.imitate.proofs.Lines.{schedule-placed}
 use Rattle.imitate.proofs.Readings.{plan-refused, plan-schedule_refused, plan-read}
 use Rattle.imitate.proofs.reading.read_plan.Goals as goal

@@ -3,7 +3,7 @@ use Rattle.std.proofs.lemmas.List.Elements.{recursion_from_All}
 use Rattle.gr_lists.proofs.Maps.{Each-map}
 use Rattle.gr_edges.specs.declared.graph.VertexInfo.{VertexInfo}
 use Rattle.gr_edges.specs.Vertices.{id_of}
-use Rattle.gr_job.specs.Job.{values_of}
+use Rattle.gr_job.specs.Values.{values_of}
 use Rattle.imitate.proofs.Readings.{task-job_refused, task-graph_refused, task-read}
 use Rattle.imitate.proofs.reading.read_work.Goals as goal
 

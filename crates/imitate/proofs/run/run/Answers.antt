@@ -1,6 +1,8 @@
 use Rattle.std.proofs.Common.{◌≡◌, ◌∙◌, Some, Ok, ap}
-use Rattle.imitate.specs.Words.{FileNames, named}
-use Rattle.imitate.specs.Reading.{plan_of, plan_in}
+use Rattle.imitate.specs.Words.{FileNames}
+use Rattle.imitate.specs.Commands.{named}
+use Rattle.imitate.specs.Reading.{plan_of}
+use Rattle.imitate.specs.Accepted.{plan_in}
 use Rattle.imitate.specs.Outcome.{plan_to}
 use Rattle.imitate.proofs.Quiet.{some-then}
 use Rattle.imitate.proofs.Plans.{plan-fails, unplayed-fails, played-ends, played-shown, memory-fails}

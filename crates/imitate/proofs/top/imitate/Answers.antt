@@ -1,5 +1,5 @@
 use Rattle.std.proofs.Common.{ℕ, List, Bor, map, refl}
-use Rattle.imitate.specs.Words.{asked_by}
+use Rattle.imitate.specs.Commands.{asked_by}
 use Rattle.imitate.proofs.Behaviours.{usage-left, end-answered, refusal-answered, refusal-left}
 use Rattle.imitate.proofs.top.imitate.Goals as goal
 

@@ -4,7 +4,8 @@ use Rattle.std.proofs.lemmas.List.FromFn.{length-range_with_len}
 use Rattle.gr_edges.specs.Vertices.{ids, vertex_of}
 use Rattle.gr_gen.specs.Generated.{vertex_count, vertices_below, edges_of, schedule_of}
 use Rattle.gr_gen.proofs.Ends.{length-edges_of}
-use Rattle.gr_job.specs.Job.{JobValues, values_of}
+use Rattle.gr_job.specs.Job.{JobValues}
+use Rattle.gr_job.specs.Values.{values_of}
 use Rattle.gr_min.specs.Shortest.{shortest}
 use Rattle.gr_cluster.specs.Load.{load}
 use Rattle.gr_cluster.specs.Ending.{results_of}

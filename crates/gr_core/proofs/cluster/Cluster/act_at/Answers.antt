@@ -13,6 +13,7 @@ use Rattle.gr_core.proofs.Needs.{may-work}
 use Rattle.gr_view.specs.Decisions.{parties}
 use Rattle.gr_core.specs.Targets.{TargetsFit}
 use Rattle.gr_core.proofs.Standing.{fit-stand}
+use Rattle.gr_core.proofs.Resting.{nobody}
 use Rattle.gr_core.proofs.Kept.{keeps, keeps-stepped}
 use Rattle.gr_core.proofs.Turns.{turn-act, work-step}
 use Rattle.gr_core.proofs.cluster.Cluster.act_at.Goals as goal
@@ -42,6 +43,7 @@ invariant_of-self g c =
     let fit = fit-stand P s.coordinator.epoch (parties s.coordinator) s.hosts.items a.new.hosts.items a.new.kept a.ensures.stand a.ensures.targets in
     record {
       retired = tt;
+      resting = λ q here. absurd (nobody _ c.none-self-inside.ensures q here);
       targets = subst (λ n. TargetsFit P n (parties a.new.coordinator) a.new.hosts.items a.new.kept) (sym a.ensures.epoch)
           (subst (λ ps. TargetsFit P s.coordinator.epoch ps a.new.hosts.items a.new.kept) (sym a.ensures.parties) fit);
       agrees = keeps-stepped P k (record k { hosts = a.new.hosts.items; flight = a.new.flight; serial = a.new.serial; coordinator = a.new.coordinator }) (step P k (event.Work p)) a.result ok

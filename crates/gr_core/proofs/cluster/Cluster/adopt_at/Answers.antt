@@ -7,6 +7,8 @@ use Rattle.gr_core.specs.declared.turn.Turn.TheVariants as turn
 use Rattle.gr_core.specs.Turns.{turn_of}
 use Rattle.gr_core.proofs.Turns.{adopt-step}
 use Rattle.gr_core.proofs.Kept.{keeps, cut-fits}
+use Rattle.gr_core.proofs.Standing.{no-targets}
+use Rattle.gr_core.proofs.Resting.{nobody}
 use Rattle.gr_core.proofs.cluster.Cluster.adopt_at.Goals as goal
 
 pub invariant_of-self : goal.invariant_of-self
@@ -19,7 +21,7 @@ invariant_of-self g c =
     let is = adopt-step P k c.args.p over c.adopt.new.hosts.items c.cut_tail.new.logs.items next (c.adopt.ensures k.coordinator.mode (sym c.is_rebuild-rebuild.ensures)) c.cut_tail.ensures in
     let fits : c.args.p < k.places = subst (λ x. c.args.p < x.cluster.places) (sym c.self.view_is) c.requires.place in
     let whole : length k.logs ≡ k.places = c.self.invariant.agrees.holds.committed.shaped.logs in
-    record { agrees = subst (λ x. Agrees P x.0) (sym is) (keeps P (g.met.P.VertexProgram.laws s.program) k c.self.invariant.agrees (event.Work c.args.p) tt); targets = tt; retired = cut-fits (view_of P k) k.logs c.args.p (omega (arith, fits, whole)) c.cut_tail.ensures s.retired c.self.invariant.retired }
+    record { agrees = subst (λ x. Agrees P x.0) (sym is) (keeps P (g.met.P.VertexProgram.laws s.program) k c.self.invariant.agrees (event.Work c.args.p) tt); targets = λ q ts h here at. absurd (no-targets _ c.forget_all.ensures q ts here); resting = λ q here. absurd (nobody _ c.none-self-inside.ensures q here); retired = cut-fits (view_of P k) k.logs c.args.p (omega (arith, fits, whole)) c.cut_tail.ensures s.retired c.self.invariant.retired }
 
 pub returns-clause-step : goal.returns-clause-step
 returns-clause-step g c =

@@ -1,6 +1,8 @@
 use Rattle.gr_sched.specs.declared.event.Event.TheVariants as event
 use Rattle.gr_core.proofs.Kept.{keeps-step}
 use Rattle.gr_core.proofs.Rebuilds.{next-inside, place-inside, place-within, log-within, few-here, masters-here, fits-here, fits-kept, retired-here, ready-here, committed-here, appended-step, appended-fits}
+use Rattle.gr_core.proofs.Standing.{no-targets}
+use Rattle.gr_core.proofs.Resting.{nobody}
 use Rattle.gr_core.proofs.cluster.Cluster.append_at.Goals as goal
 
 pub keep_retired-requires-clause-places : goal.keep_retired-requires-clause-places
@@ -62,7 +64,8 @@ invariant_of-self-2 g c =
     let is = appended-step K N W R c.append.new.logs.items c.in_ok-bytes.ensures.logs c.append.new.hosts.items c.in_ok-bytes.bytes c.in_ok-bytes.ensures.bytes c.in_ok-bytes.ensures.hosts in
     record {
       agrees = keeps-step K (g.met.P.VertexProgram.laws c.self.inside.program) (event.Work c.args.p) tt is;
-      targets = tt;
+      targets = λ q ts h here at. absurd (no-targets _ c.forget_all.ensures q ts here);
+      resting = λ q here. absurd (nobody _ c.none-self-inside.ensures q here);
       retired = appended-fits K N W R c.append.new.logs.items c.in_ok-bytes.ensures.logs c.keep_retired.new.kept (fits-kept K N W c.as_slice-logs.ensures.value c.in_ok-keep_retired.ensures.ok);
     }
 

@@ -11,6 +11,8 @@ use Rattle.gr_core.specs.Tables.{Agrees}
 use Rattle.gr_core.proofs.Barrier.{barrier-step, whole-logs}
 use Rattle.gr_core.proofs.Down.{includes-down}
 use Rattle.gr_core.proofs.Kept.{keeps, rounds-below}
+use Rattle.gr_core.proofs.Standing.{no-targets}
+use Rattle.gr_core.proofs.Resting.{nobody}
 use Rattle.gr_core.proofs.cluster.Cluster.barrier.Goals as goal
 
 pub barrier-verdict-requires-clause-crashed : goal.barrier-verdict-requires-clause-crashed
@@ -61,7 +63,7 @@ invariant_of-self g c =
     let seen : ps ≡ down_among k (looked_at k.coordinator) = c.down_among-down.ensures ∙ ((λ i. down_among (sym c.self.view_is i).cluster c.looked_at.result) ∙ ap (down_among k) c.looked_at.ensures) in
     let is = barrier-step P k over ps x seen c.barrier-verdict.ensures.decision c.carry_out.new.hosts.items c.carry_out.new.logs.items c.carry_out.ensures.hosts c.carry_out.ensures.logs in
     let told = ap (λ o. (record k { hosts = c.carry_out.new.hosts.items; logs = c.carry_out.new.logs.items; coordinator = c.barrier-verdict.new.self }, o)) c.carry_out.ensures.outcome ∙ is in
-    record { agrees = subst (λ y. Agrees P y.0) (sym told) (keeps P (g.met.P.VertexProgram.laws s.program) k c.self.invariant.agrees event.Barrier tt); targets = tt; retired = tt }
+    record { agrees = subst (λ y. Agrees P y.0) (sym told) (keeps P (g.met.P.VertexProgram.laws s.program) k c.self.invariant.agrees event.Barrier tt); targets = λ q ts h here at. absurd (no-targets _ c.forget_all.ensures q ts here); resting = λ q here. absurd (nobody _ c.none-self-inside.ensures q here); retired = tt }
 
 pub returns-clause-step : goal.returns-clause-step
 returns-clause-step g c =

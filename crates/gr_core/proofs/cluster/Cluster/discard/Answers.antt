@@ -11,6 +11,8 @@ use Rattle.gr_core.specs.Tables.{Agrees}
 use Rattle.gr_core.proofs.Down.{includes-down}
 use Rattle.gr_core.proofs.Kept.{keeps}
 use Rattle.gr_core.proofs.Orders.{discard-step}
+use Rattle.gr_core.proofs.Standing.{no-targets}
+use Rattle.gr_core.proofs.Resting.{nobody}
 use Rattle.gr_core.proofs.cluster.Cluster.discard.Goals as goal
 
 pub discard-epoch-requires-clause-crashed : goal.discard-epoch-requires-clause-crashed
@@ -35,12 +37,12 @@ invariant_of-self g c =
     let ps = c.down_among-down.result in
     let x : Coordinator × Option ℕ = (c.discard-epoch.new.self, c.discard-epoch.result) in
     let seen : ps ≡ down_among k (parties k.coordinator) = c.down_among-down.ensures ∙ ((λ i. down_among (sym c.self.view_is i).cluster c.parties.result) ∙ ap (down_among k) c.parties.ensures) in
-    let back = c.going_back-back.ensures in
+    let back = c.difference-back.ensures.difference in
     let hosts = c.send_back.ensures.hosts ∙ ap (λ qs. changed_at qs (λ _ _. None) k.hosts) back in
     let logs = c.send_back.ensures.logs ∙ ap (λ qs. changed_at qs (λ _. cut_log) k.logs) back in
     let is = discard-step P k over c.self.invariant.agrees.holds.committed.places.none_reborn ps x c.send_back.new.hosts.items c.send_back.new.logs.items seen c.discard-epoch.ensures.decision hosts logs in
     let told = ap (λ o. (record k { hosts = c.send_back.new.hosts.items; logs = c.send_back.new.logs.items; coordinator = c.discard-epoch.new.self }, o)) c.discarded.ensures ∙ is in
-    record { agrees = subst (λ y. Agrees P y.0) (sym told) (keeps P (g.met.P.VertexProgram.laws s.program) k c.self.invariant.agrees event.Discard tt); targets = tt; retired = tt }
+    record { agrees = subst (λ y. Agrees P y.0) (sym told) (keeps P (g.met.P.VertexProgram.laws s.program) k c.self.invariant.agrees event.Discard tt); targets = λ q ts h here at. absurd (no-targets _ c.forget_all.ensures q ts here); resting = λ q here. absurd (nobody _ c.none-self-inside.ensures q here); retired = tt }
 
 pub returns-clause-step : goal.returns-clause-step
 returns-clause-step g c =
@@ -51,7 +53,7 @@ returns-clause-step g c =
     let ps = c.down_among-down.result in
     let x : Coordinator × Option ℕ = (c.discard-epoch.new.self, c.discard-epoch.result) in
     let seen : ps ≡ down_among k (parties k.coordinator) = c.down_among-down.ensures ∙ ((λ i. down_among (sym c.self.view_is i).cluster c.parties.result) ∙ ap (down_among k) c.parties.ensures) in
-    let back = c.going_back-back.ensures in
+    let back = c.difference-back.ensures.difference in
     let hosts = c.send_back.ensures.hosts ∙ ap (λ qs. changed_at qs (λ _ _. None) k.hosts) back in
     let logs = c.send_back.ensures.logs ∙ ap (λ qs. changed_at qs (λ _. cut_log) k.logs) back in
     let is = discard-step P k over c.self.invariant.agrees.holds.committed.places.none_reborn ps x c.send_back.new.hosts.items c.send_back.new.logs.items seen c.discard-epoch.ensures.decision hosts logs in

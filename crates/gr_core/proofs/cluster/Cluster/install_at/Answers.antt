@@ -7,6 +7,8 @@ use Rattle.gr_core.specs.declared.turn.Turn.TheVariants as turn
 use Rattle.gr_core.specs.Turns.{turn_of}
 use Rattle.gr_core.proofs.Turns.{install-step}
 use Rattle.gr_core.proofs.Kept.{keeps}
+use Rattle.gr_core.proofs.Standing.{no-targets}
+use Rattle.gr_core.proofs.Resting.{nobody}
 use Rattle.gr_core.proofs.cluster.Cluster.install_at.Goals as goal
 
 pub invariant_of-self : goal.invariant_of-self
@@ -17,7 +19,7 @@ invariant_of-self g c =
     let over : is_over k.coordinator.mode ≡ false = ap (λ x. is_over x.cluster.coordinator.mode) c.self.view_is ∙ c.requires.going in
     let next : turn_of k.coordinator (host k c.args.p) ≡ turn.Install = ap (λ x. turn_of x.cluster.coordinator (host x.cluster c.args.p)) c.self.view_is ∙ c.requires.turn in
     let is = install-step P k c.args.p over c.install.new.hosts.items c.install.result next c.install.ensures.hosts c.install.ensures.count in
-    record { agrees = subst (λ x. Agrees P x.0) (sym is) (keeps P (g.met.P.VertexProgram.laws s.program) k c.self.invariant.agrees (event.Work c.args.p) tt); targets = tt; retired = c.self.invariant.retired }
+    record { agrees = subst (λ x. Agrees P x.0) (sym is) (keeps P (g.met.P.VertexProgram.laws s.program) k c.self.invariant.agrees (event.Work c.args.p) tt); targets = λ q ts h here at. absurd (no-targets _ c.forget_all.ensures q ts here); resting = λ q here. absurd (nobody _ c.none-self-inside.ensures q here); retired = c.self.invariant.retired }
 
 pub returns-clause-step : goal.returns-clause-step
 returns-clause-step g c =

@@ -5,6 +5,8 @@ use Rattle.gr_view.specs.Decisions.{first_coordinator}
 use Rattle.gr_law_runs.specs.Undisturbed.{RunsUndisturbed}
 use Rattle.gr_core.specs.Tables.{Agrees}
 use Rattle.gr_core.specs.Loaded.{setting_of}
+use Rattle.gr_core.proofs.Standing.{no-targets_at-load}
+use Rattle.gr_core.proofs.Resting.{nobody}
 use Rattle.gr_core.proofs.Loaded.{load-is, loaded-undisturbed}
 use Rattle.gr_core.proofs.cluster.Cluster.load.Goals as goal
 
@@ -21,7 +23,8 @@ invariant_of-result g c =
     let U = loaded-undisturbed P laws job graph (omega arith) c.requires.edges c.requires.vertices in
     let coordinator : c.new-2.result ≡ first_coordinator s.places s.spares s.limit (nat_lt 0 (length vs)) = c.new-2.ensures ∙ ap (λ n. first_coordinator s.places s.spares s.limit (nat_lt 0 n)) (c.vertex_count-any_vertex.ensures.count ∙ sym (length-map xs id_of)) in
     record {
-      targets = tt;
+      targets = λ q ts h here at. absurd (no-targets_at-load _ c.in_ok-kept.ensures q ts here);
+      resting = λ q here. absurd (nobody _ c.none-2.ensures q here);
       retired = tt;
       agrees = subst (Agrees P) (sym ((λ i. record {
         hosts = c.in_ok-hosts.ensures.hosts i;

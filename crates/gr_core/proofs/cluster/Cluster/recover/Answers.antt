@@ -8,6 +8,8 @@ use Rattle.gr_cluster.specs.Step.{lost_list}
 use Rattle.gr_core.specs.Tables.{Agrees}
 use Rattle.gr_core.proofs.Kept.{keeps}
 use Rattle.gr_core.proofs.Orders.{recover-step, recover-idle}
+use Rattle.gr_core.proofs.Standing.{no-targets}
+use Rattle.gr_core.proofs.Resting.{nobody}
 use Rattle.gr_core.proofs.cluster.Cluster.recover.Goals as goal
 
 pub returns-then-not-is_failed-clause-ok : goal.returns-then-not-is_failed-clause-ok
@@ -33,7 +35,7 @@ invariant_of-self-2 g c =
     let many : n ≡ length (lost_list k) = c.len-lost.ensures ∙ (ap length c.in_ok-lost.ensures.list ∙ ap (λ x. length (lost_list x.cluster)) (sym c.self.view_is)) in
     let is = recover-step P k over c.args.rebirth n x c.start_spares.new.hosts.items c.start_spares.new.logs.items many c.open_recovery-opening.ensures.decision c.in_ok-start_spares.ensures.hosts c.in_ok-start_spares.ensures.logs in
     let told = ap (λ o. (record k { hosts = c.start_spares.new.hosts.items; logs = c.start_spares.new.logs.items; coordinator = c.open_recovery-opening.new.self }, o)) c.opened.ensures ∙ is in
-    record { agrees = subst (λ y. Agrees P y.0) (sym told) (keeps P (g.met.P.VertexProgram.laws s.program) k c.self.invariant.agrees (event.Recover c.args.rebirth) c.has-first.ensures.places); targets = tt; retired = tt }
+    record { agrees = subst (λ y. Agrees P y.0) (sym told) (keeps P (g.met.P.VertexProgram.laws s.program) k c.self.invariant.agrees (event.Recover c.args.rebirth) c.has-first.ensures.places); targets = λ q ts h here at. absurd (no-targets _ c.forget_all.ensures q ts here); resting = λ q here. absurd (nobody _ c.none-self-inside.ensures q here); retired = tt }
 
 pub returns-clause-ok : goal.returns-clause-ok
 returns-clause-ok g c =

@@ -5,6 +5,8 @@ use Rattle.gr_cluster.specs.Tables.{Cluster}
 use Rattle.gr_core.specs.Tables.{Agrees}
 use Rattle.gr_core.proofs.Kept.{keeps}
 use Rattle.gr_core.proofs.Orders.{repair-step}
+use Rattle.gr_core.proofs.Standing.{no-targets}
+use Rattle.gr_core.proofs.Resting.{nobody}
 use Rattle.gr_core.proofs.cluster.Cluster.repair.Goals as goal
 
 pub invariant_of-self : goal.invariant_of-self
@@ -14,7 +16,7 @@ invariant_of-self g c =
     let k : Cluster g.row.P-Value.Denot g.row.P-Acc.Denot = record { hosts = s.hosts.items; logs = s.logs.items; flight = s.flight; serial = s.serial; coordinator = s.coordinator; places = s.places; losses = s.losses; theta = s.theta } in
     let over : is_over k.coordinator.mode ≡ false = ap (λ x. is_over x.cluster.coordinator.mode) c.self.view_is ∙ c.requires.going in
     let is = repair-step P k over (c.open_repair.new.self, c.open_repair.result) c.open_repair.ensures.decision in
-    record { agrees = subst (λ x. Agrees P x.0) (sym is) (keeps P (g.met.P.VertexProgram.laws s.program) k c.self.invariant.agrees event.Repair tt); targets = tt; retired = tt }
+    record { agrees = subst (λ x. Agrees P x.0) (sym is) (keeps P (g.met.P.VertexProgram.laws s.program) k c.self.invariant.agrees event.Repair tt); targets = λ q ts h here at. absurd (no-targets _ c.forget_all.ensures q ts here); resting = λ q here. absurd (nobody _ c.none-self-inside.ensures q here); retired = tt }
 
 pub returns-clause-step : goal.returns-clause-step
 returns-clause-step g c =

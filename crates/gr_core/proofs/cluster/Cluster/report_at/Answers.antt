@@ -1,6 +1,8 @@
 use Rattle.gr_sched.specs.declared.event.Event.TheVariants as event
 use Rattle.gr_core.proofs.Kept.{keeps-step}
 use Rattle.gr_core.proofs.Rebuilds.{next-inside, computed-here, end-here, report-fits, reported-step, reported-fits}
+use Rattle.gr_core.proofs.Standing.{no-targets}
+use Rattle.gr_core.proofs.Resting.{nobody}
 use Rattle.gr_core.proofs.cluster.Cluster.report_at.Goals as goal
 
 pub report-due-requires-clause-computed : goal.report-due-requires-clause-computed
@@ -40,7 +42,8 @@ invariant_of-self g c =
     let is = reported-step K N c.report-due.new.hosts.items c.report.new.self c.report-due.result c.report-due.ensures.hosts c.report-due.ensures.due c.report.ensures in
     record {
       agrees = keeps-step K (g.met.P.VertexProgram.laws c.self.inside.program) (event.Work c.args.p) tt is;
-      targets = tt;
+      targets = λ q ts h here at. absurd (no-targets _ c.forget_all.ensures q ts here);
+      resting = λ q here. absurd (nobody _ c.none-self-inside.ensures q here);
       retired = reported-fits K N c.report.new.self c.report-due.result c.report.ensures c.self.inside.retired c.self.invariant.retired;
     }
 

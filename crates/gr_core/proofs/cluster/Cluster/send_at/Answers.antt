@@ -3,6 +3,8 @@ use Rattle.std.specs.Prelude.{IfSome}
 use Rattle.std.proofs.lemmas.List.{get_or_default}
 use Rattle.gr_law_work.specs.AtPlace.{ReadyToRebuild}
 use Rattle.gr_core.proofs.Rebuilds.{next-inside, place-inside, up-within, few-here, masters-here, fits-here, fits-kept, retired-here, ready-at, line-here, sent-step, sent-agrees}
+use Rattle.gr_core.proofs.Standing.{no-targets}
+use Rattle.gr_core.proofs.Resting.{nobody}
 use Rattle.gr_core.proofs.cluster.Cluster.send_at.Goals as goal
 
 pub keep_retired-requires-clause-places : goal.keep_retired-requires-clause-places
@@ -54,7 +56,8 @@ invariant_of-self-2 g c =
     c.send.result c.send.new.hosts.items c.send.new.flight c.send.new.serial c.send.ensures.ok c.send.ensures.hosts c.send.ensures.flight c.send.ensures.serial in
     record {
       agrees = sent-agrees K N (g.met.P.VertexProgram.laws c.self.inside.program) c.send.result c.send.new.hosts.items c.send.new.flight c.send.new.serial ok c.send.ensures.hosts_kept c.send.ensures.flight_kept c.send.ensures.serial_kept;
-      targets = tt;
+      targets = λ q ts h here at. absurd (no-targets _ c.forget_all.ensures q ts here);
+      resting = λ q here. absurd (nobody _ c.none-self-inside.ensures q here);
       retired = fits-kept K N W c.as_slice-logs.ensures.value c.in_ok-keep_retired.ensures.ok;
     }
 

@@ -1,5 +1,5 @@
 use Rattle.std.proofs.Common.{◌∙◌, ap, sym}
-use Rattle.gr_log.specs.Log.{committed_size}
+use Rattle.gr_log.specs.Appending.{committed_size}
 use Rattle.gr_log.proofs.Logs.{committed-length}
 use Rattle.gr_log.proofs.edge_log.EdgeLog.committed.Goals as goal
 

@@ -1,5 +1,6 @@
 use Rattle.std.proofs.Common.{◌≡◌, ◌∙◌, ◌-◌, ap, sym, length}
-use Rattle.gr_log.specs.Log.{Log, committed_size, tail_size, log_bytes}
+use Rattle.gr_log.specs.Log.{Log, tail_size}
+use Rattle.gr_log.specs.Appending.{committed_size, log_bytes}
 use Rattle.gr_log.proofs.Logs.{committed-length, tail-length, log-is}
 use Rattle.gr_log.proofs.edge_log.EdgeLog.length.Goals as goal
 

@@ -7,24 +7,27 @@ use crate::graph::VertexInfo;
 use gr_base::{Items, OutOfMemory};
 use std::alloc::Global;
 
-/// The place of the vertex of an id, found at once if its hint is right, and else by a search.
-pub fn place_of(vertices: &[VertexInfo], hints: &[u32], id: u32) -> usize
+/// The position of the vertex of an id: how many vertices have lesser ids.
+///
+/// The hints are those that `position_hints` makes of these vertices, though any serve: what a hint names is checked.
+/// In constant time if the hint of the id is right, else with a logarithm in the vertices.
+pub fn position_of(vertices: &[VertexInfo], hints: &[u32], id: u32) -> usize
     requires rise { RisesBy id_of vertices.now }
     requires stands { has (ids vertices.now) id ≡ true }
-    ensures place { result ≡ prefix_len (λ v. nat_lt v.id id) vertices.now }
+    ensures position { result ≡ prefix_len (λ v. nat_lt v.id id) vertices.now }
     ensures within { result < length vertices.now }
     ensures found { (d : VertexInfo) → id_of (slice_index_or vertices.now result d) ≡ id }
 {
-    match hinted_place(vertices, hints, id) {
-        Some(place) => place,
-        None => searched_place(vertices, id),
+    match hinted_position(vertices, hints, id) {
+        Some(position) => position,
+        None => searched_position(vertices, id),
     }
 }
 
-// The place that the hint of an id names, if the vertex of that id stands there.
-fn hinted_place(vertices: &[VertexInfo], hints: &[u32], id: u32) -> Option<usize>
+// The position that the hint of an id names, if the vertex of that id stands there.
+fn hinted_position(vertices: &[VertexInfo], hints: &[u32], id: u32) -> Option<usize>
     requires rise { RisesBy id_of vertices.now }
-    ensures place { IfSome result (λ at. at ≡ prefix_len (λ v. nat_lt v.id id) vertices.now) }
+    ensures position { IfSome result (λ at. at ≡ prefix_len (λ v. nat_lt v.id id) vertices.now) }
     ensures within { IfSome result (λ at. at < length vertices.now) }
     ensures found { IfSome result (λ at. (d : VertexInfo) → id_of (slice_index_or vertices.now at d) ≡ id) }
 {
@@ -39,28 +42,29 @@ fn hinted_place(vertices: &[VertexInfo], hints: &[u32], id: u32) -> Option<usize
     }
 }
 
-// The place of the vertex of an id, by halving.
-fn searched_place(vertices: &[VertexInfo], id: u32) -> usize
+// The position of the vertex of an id, by halving.
+fn searched_position(vertices: &[VertexInfo], id: u32) -> usize
     requires rise { RisesBy id_of vertices.now }
     requires stands { has (ids vertices.now) id ≡ true }
-    ensures place { result ≡ prefix_len (λ v. nat_lt v.id id) vertices.now }
+    ensures position { result ≡ prefix_len (λ v. nat_lt v.id id) vertices.now }
     ensures within { result < length vertices.now }
     ensures found { (d : VertexInfo) → id_of (slice_index_or vertices.now result d) ≡ id }
 {
     vertices.partition_point(|v| v.id < id)
 }
 
-/// A hint for each vertex, at the last bits of its id.
+/// Hints by which `position_of` finds these vertices: the position of each, at the last bits of its id.
 ///
-/// There are at most eight times as many hints as vertices. Of vertices that share one, the last has it.
-pub fn place_hints(alloc: Global, vertices: &[VertexInfo]) -> Result<Items<u32>, OutOfMemory>
-    ensures { IfOk result (λ hints. 0 < length hints) }
+/// In time and memory linear in the vertices: there are at most eight times as many hints, or one if there is none.
+/// Of vertices that share a hint, the last has it. None share one if the ids are below four times their number.
+pub fn position_hints(alloc: Global, vertices: &[VertexInfo]) -> Result<Items<u32>, OutOfMemory>
+    ensures some { IfOk result (λ hints. 0 < length hints) }
 {
     let slots = hint_count(vertices);
     let mut hints = vec![in alloc; 0; slots]?;
-    for (place, vertex) in vertices.iter().enumerate() {
+    for (position, vertex) in vertices.iter().enumerate() {
         let slot = vertex.id as usize & (slots - 1);
-        hints[slot] = place.min(u32::MAX as usize) as u32;
+        hints[slot] = position.min(u32::MAX as usize) as u32;
     }
     Ok(Items::from_vec(hints))
 }

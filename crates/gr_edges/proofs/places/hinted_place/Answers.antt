@@ -1,7 +1,0 @@
-use Rattle.std.proofs.Common.{sym}
-use Rattle.gr_edges.specs.Vertices.{id_of}
-use Rattle.gr_edges.proofs.Standing.{prefix_len-at}
-use Rattle.gr_edges.proofs.places.hinted_place.Goals as goal
-
-pub returns-then-vertices-at-clause-place : goal.returns-then-vertices-at-clause-place
-returns-then-vertices-at-clause-place c = sym (prefix_len-at id_of c.args.id c.args.vertices.now _ _ c.requires.rise c.if-at-vertices.true c.if-vertices-at.true)
