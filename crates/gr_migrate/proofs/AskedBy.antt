@@ -1,5 +1,5 @@
 -- Who asks for a vertex is any rising list of those who do.
-use Rattle.std.proofs.Common.{◌≡◌, ◌==◌, ℕ, List, [], ◌∷◌, Bool, true, false, Some, None, if◌then◌else◌, find, map, filter, refl, sym, ap, ◌∙◌, eqb-true}
+use Rattle.std.proofs.Common.{◌≡◌, ◌==◌, ℕ, List, [], ◌∷◌, Bool, true, false, map, filter, refl, sym, ap, ◌∙◌}
 use Rattle.std.specs.Prelude.{◌||◌}
 use Rattle.std.specs.List.{fold}
 use Rattle.gr_base.specs.Rising.{RisesBy, has}
@@ -7,16 +7,10 @@ use Rattle.gr_base.specs.Places.{with_place}
 use Rattle.gr_base.proofs.Rising.{rises-nil}
 use Rattle.gr_base.proofs.WithPlace.{has-with_place}
 use Rattle.gr_lists.proofs.Tests.{by_test}
-use Rattle.gr_lists.proofs.Items.{rises-same}
+use Rattle.gr_lists.proofs.Numbers.{same-numbers}
 use Rattle.gr_migrate.specs.declared.grant.AskFrom.{AskFrom}
 use Rattle.gr_migrate.specs.Askers.{asks_for, askers, AreAskers}
 use Rattle.gr_migrate.proofs.Keyed.{rising-rises}
-
-find-number : (xs : List ℕ) (v : ℕ) → find (λ x. x == v) xs ≡ (if has xs v then Some v else None)
-find-number [] v = refl
-find-number (x ∷ xs) v = by_test (x == v)
-    (λ e. rw e (ap Some (eqb-true x v e)))
-    (λ e. rw e (find-number xs v))
 
 has-rising : (ns old : List ℕ) (q : ℕ) → has (fold with_place old ns) q ≡ (has old q || has ns q)
 has-rising [] old q = sym (last (has old q))
@@ -39,8 +33,8 @@ has-askers (a ∷ rest) v q = by_test (a.vertex == v)
 askers-are : (asked : List AskFrom) (v : ℕ) (places : List ℕ) → RisesBy (λ (p : ℕ). p) places → ((q : ℕ) → has places q ≡ asks_for asked v q) → askers asked v ≡ places
 unfolding askers
 askers-are asked v places rise same =
-    rises-same (λ (p : ℕ). p) (askers asked v) places (rising-rises (map (λ (a : AskFrom). a.asker) (filter (λ (a : AskFrom). a.vertex == v) asked)) [] (rises-nil (λ p. p))) rise
-    (λ q. find-number (askers asked v) q ∙ (ap (λ b. if b then Some q else None) (has-rising (map (λ (a : AskFrom). a.asker) (filter (λ (a : AskFrom). a.vertex == v) asked)) [] q ∙ (has-askers asked v q ∙ sym (same q))) ∙ sym (find-number places q)))
+    same-numbers (askers asked v) places (rising-rises (map (λ (a : AskFrom). a.asker) (filter (λ (a : AskFrom). a.vertex == v) asked)) [] (rises-nil (λ p. p))) rise
+    (λ q. has-rising (map (λ (a : AskFrom). a.asker) (filter (λ (a : AskFrom). a.vertex == v) asked)) [] q ∙ (has-askers asked v q ∙ sym (same q)))
 
 -- so a body over them is one over any such lists
 pub all-askers : (asked : List AskFrom) (asked_by : ℕ → List ℕ) → AreAskers asked asked_by → askers asked ≡ asked_by

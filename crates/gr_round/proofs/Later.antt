@@ -1,17 +1,16 @@
 -- A batch of another stage that comes to an inbox changes nothing of what it holds of a stage, nor of the targets.
-use Rattle.std.proofs.Common.{◌≡◌, ℕ, Bool, true, false, List, [], ◌∷◌, ◌++◌, map, Option, Some, None, refl, ap}
+use Rattle.std.proofs.Common.{◌≡◌, ℕ, Bool, true, false, List, [], ◌∷◌, ◌++◌, map, Some, None, refl, ap}
 use Rattle.std.specs.Prelude.{◌==◌, ◌&&◌, flat_map}
 use Rattle.std.specs.List.{find}
 use Rattle.gr_base.specs.declared.records.NumberedEdge.{NumberedEdge}
 use Rattle.gr_program.specs.declared.copy.VertexCopy.{VertexCopy}
 use Rattle.gr_program.specs.Program.{Program}
 use Rattle.gr_batch.specs.declared.batch.Batch.{Batch}
-use Rattle.gr_batch.specs.declared.body.Body.{Body}
 use Rattle.gr_batch.specs.declared.stage.Stage.{Stage}
 use Rattle.gr_batch.specs.declared.stage.Stage.TheVariants as stage
 use Rattle.gr_batch.specs.Stages.{is_stage}
 use Rattle.gr_batch.specs.Bodies.{is_of, stage_of_body, values_of}
-use Rattle.gr_rules.specs.Inbox.{batch_from, bodies}
+use Rattle.gr_rules.specs.Inbox.{bodies}
 use Rattle.gr_rules.specs.Round.{new_values}
 use Rattle.gr_lists.proofs.Tests.{by_test}
 use Rattle.gr_signal.specs.Signals.{signalled}

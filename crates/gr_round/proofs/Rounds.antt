@@ -1,6 +1,5 @@
--- What the stages of a round stage and send, by cases, and by the members of lists alone.
-use Rattle.std.proofs.Common.{◌≡◌, ◌∙◌, ℕ, List, [], ◌∷◌, map, get_or, refl, ap}
-use Rattle.std.specs.Prelude.{◌&&◌, ◌==◌}
+-- What the stages of a round stage and send, by cases.
+use Rattle.std.proofs.Common.{◌≡◌, ◌∙◌, ℕ, List, [], ◌∷◌, map, refl, ap}
 use Rattle.gr_base.specs.Rising.{has}
 use Rattle.gr_base.specs.declared.records.NumberedEdge.{NumberedEdge}
 use Rattle.gr_program.specs.declared.copy.VertexCopy.{VertexCopy}
@@ -11,9 +10,7 @@ use Rattle.gr_batch.specs.declared.stage.Stage.{Stage}
 use Rattle.gr_batch.specs.declared.stage.Stage.TheVariants as stage
 use Rattle.gr_rows.specs.Layers.{vertex_of}
 use Rattle.gr_rules.specs.Rows.{with_due}
-use Rattle.gr_rules.specs.Round.{call_body}
 use Rattle.gr_rules.specs.AtPlace.{own_values, sent_values, all_next, round_rows, round_body}
-use Rattle.gr_signal.proofs.Selected.{vertices-same}
 use Rattle.gr_round.proofs.Staged.{vertices-values}
 
 module _ {V : Type 0} where
@@ -27,13 +24,6 @@ module _ {V : Type 0} where
   unfolding with_due
   vertices-due due [] = refl
   vertices-due due (c ∷ cs) = ap (λ l. c.vertex ∷ l) (vertices-due due cs)
-
-  -- and so are calls
-  pub call-same : (xs ys : List ℕ) → ((v : ℕ) → has xs v ≡ has ys v) → (rows : List (VertexCopy V)) (p q : ℕ) → call_body xs rows p q ≡ call_body ys rows p q
-  unfolding call_body
-  call-same xs ys same rows p q =
-      vertices-same (λ c. (c.master == p) && (has xs c.vertex && has c.holders q)) (λ c. (c.master == p) && (has ys c.vertex && has c.holders q)) rows
-      (λ k d l. let x = get_or rows k d in ap (λ b. (x.master == p) && (b && has x.holders q)) (same x.vertex))
 
 module _ {V A : Type 0} (P : Program V A) (p e : ℕ) (others : List ℕ) (inbox : List (Batch V A)) (rows : List (VertexCopy V)) (arcs : List NumberedEdge) where
   -- no stage adds or drops a copy

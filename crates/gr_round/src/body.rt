@@ -3,7 +3,7 @@ ghost use Rattle.gr_rules.specs.AtPlace.{round_body};
 ghost use Rattle.gr_round.specs.Kept.{is_of_targets, TargetsGiven};
 ghost use Rattle.gr_round.specs.Needs.{ValuesReady, SignalsRise};
 
-use crate::next::{call_body, own_next};
+use crate::next::call_body;
 use crate::party::{Given, Party};
 use crate::values::update_body;
 use gr_base::{Items, OutOfMemory};
@@ -44,8 +44,7 @@ pub(crate) fn body_to<P: VertexProgram>(
         }
         Stage::Signal => Ok(Body::Signal(targets.mastered_by(alloc, to)?)),
         Stage::Call => {
-            let next = own_next(alloc, party, targets, given.inbox)?;
-            let called = call_body(alloc, to, party, rows, next.as_slice())?;
+            let called = call_body(alloc, to, party, rows, given, targets)?;
             Ok(Body::Call(called))
         }
         _ => Ok(Body::Call(Items::new(alloc))),

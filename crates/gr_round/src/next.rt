@@ -2,7 +2,7 @@ ghost use Rattle.std.specs.Prelude.{◌≡◌, ◌++◌, ◌<◌, ℕ, IfOk, fla
 ghost use Rattle.gr_base.specs.Rising.{RisesBy, has};
 ghost use Rattle.gr_batch.specs.Bodies.{signals_of, calls_of};
 ghost use Rattle.gr_rules.specs.Round.{woke_by, call_body};
-ghost use Rattle.gr_rules.specs.AtPlace.{known_values};
+ghost use Rattle.gr_rules.specs.AtPlace.{known_values, own_next};
 ghost use Rattle.gr_signal.specs.Signals.{signals_to};
 ghost use Rattle.gr_round.specs.Kept.{targets_in};
 ghost use Rattle.gr_round.specs.Needs.{ValuesReady, SignalsRise, CallsRise};
@@ -16,7 +16,7 @@ use gr_batch::Stage;
 use gr_flight::Inbox;
 use gr_program::{Datum, VertexProgram};
 use gr_rows::Rows;
-use gr_signal::{Targets, calls, mastered, take_signals, take_woken, targets_from};
+use gr_signal::{Targets, calls, take_signals, take_woken, targets_from};
 use std::alloc::Global;
 
 /// The vertices that woke, by the new values that the place knows.
@@ -105,18 +105,35 @@ pub(crate) fn all_next<V: Datum, A: Datum>(
     Ok(next)
 }
 
-/// The Call body to the place `to`: of the vertices due next those that the place masters and `to` holds.
-pub(crate) fn call_body<V: Datum>(
+/// The Call body to the place `to`: the targets that the place masters and `to` holds, and those of the vertices that
+/// it was signalled.
+///
+/// It takes time linear in the targets, and a search for each vertex that it was signalled.
+pub(crate) fn call_body<P: VertexProgram>(
     alloc: Global,
     to: u8,
     party: &Party,
-    rows: &Rows<V>,
-    next: &[u32],
+    rows: &Rows<P::Value>,
+    given: &Given<P>,
+    targets: &Targets,
 ) -> Result<Items<u32>, OutOfMemory>
     requires place { to < 64 }
-    requires rise { RisesBy (λ v. v) next.now }
-    ensures { IfOk result (λ body. body ≡ call_body next.now rows.now.stable party.now.place to) }
+    requires signals { SignalsRise given.now.inbox.now party.now.epoch party.now.others }
+    requires targets { targets.now ≡ targets_in (P.program_of given.now.program.now) party.now
+        given.now.inbox.now rows.now.stable given.now.arcs.now.stable }
+    ensures { IfOk result (λ body. body ≡ call_body (own_next (P.program_of given.now.program.now)
+        party.now.place party.now.epoch party.now.others given.now.inbox.now
+        rows.now.stable given.now.arcs.now.stable) rows.now.stable party.now.place to) }
 {
-    let own = mastered(alloc, rows, next, party.place)?;
-    calls(alloc, rows, own.as_slice(), to)
+    // It says that the copies rise.
+    let _count = rows.count();
+    let mut called = targets.called_to(alloc, party.place, to)?;
+    for p in 0..64u8 {
+        if party.others.has(p) {
+            let signals = signals_from(given.inbox, p, party.epoch);
+            let more = calls(alloc, rows, signals, party.place, to)?;
+            take_signals(alloc, more.as_slice(), &mut called)?;
+        }
+    }
+    Ok(called)
 }

@@ -1,5 +1,5 @@
 -- The vertices that are marked as waking.
-use Rattle.std.proofs.Common.{◌≡◌, ◌∙◌, ℕ, Bool, true, false, cond, eqb, List, [], ◌∷◌, map, refl, ap}
+use Rattle.std.proofs.Common.{◌≡◌, ◌∙◌, ℕ, Bool, true, false, cond, eqb, List, [], ◌∷◌, length, map, refl, ap, arith}
 use Rattle.std.specs.Prelude.{◌&&◌, ◌||◌}
 use Rattle.std.specs.List.{filter}
 use Rattle.gr_base.specs.Rising.{has}
@@ -26,3 +26,9 @@ module _ {V : Type 0} (v : ℕ) where
   pub marked-has : (news : List (NewValue V)) → has (marked_in news) v ≡ woke_by news v
   marked-has [] = refl
   marked-has (n ∷ ns) = mark_case n.wake n (filter (λ k. k.wake) ns) (woke_by ns v) (marked-has ns)
+
+-- no vertex more
+pub has-nothing : (xs : List ℕ) (known : Bool) (v : ℕ) → length xs ≡ 0 → known ≡ (known || has xs v)
+has-nothing [] true v e = refl
+has-nothing [] false v e = refl
+has-nothing (x ∷ xs) known v e = absurd (omega (arith, e))

@@ -1,7 +1,7 @@
 -- The numbers of a rising list whose copies pass a test.
 use Rattle.std.proofs.Common.{append-nil, ◌≡◌, ◌∙◌, ◌<◌, ◌+◌, ◌++◌, take, ℕ, Bool, true, false, cond, List, [], ◌∷◌, length, get_or, map, filter, filter_map, Option, Some, None, if◌then◌else◌, refl, sym, ap, arith, eqb-true}
 use Rattle.std.specs.Prelude.{◌&&◌, ◌==◌, MatchOption, IfSome}
-use Rattle.std.specs.List.{All, cons_option}
+use Rattle.std.specs.List.{cons_option}
 use Rattle.std.proofs.lemmas.Bool.{and_right}
 use Rattle.gr_base.specs.Rising.{RisesBy, has}
 use Rattle.gr_base.proofs.Nth.{filter_map-more}
@@ -16,7 +16,7 @@ use Rattle.gr_lists.proofs.Selections.{find-filter_map}
 use Rattle.gr_lists.proofs.Chosen.{filter_map-rises}
 use Rattle.gr_signal.specs.declared.target.Target.{Target}
 use Rattle.gr_signal.specs.Signals.{target_of}
-use Rattle.gr_signal.proofs.Selected.{vertex, selected-has}
+use Rattle.gr_signal.proofs.Selected.{vertex}
 
 -- any copy passes
 abbrev pub any : {V : Type 0} → VertexCopy V → Bool
@@ -107,12 +107,6 @@ module _ {V : Type 0} (t : VertexCopy V → Bool) where
       → picked rows next ≡ vertices_where (λ c. t c && has next c.vertex) rows
   picked-are rows [] n r = ap (map vertex) (none-listed rows)
   picked-are rows (v ∷ vs) n r = picked-copies rows (v ∷ vs) ∙ ap (map vertex) (copies-are rows (v ∷ vs) n (r (omega arith)))
-
-  -- and a copy's vertex is among them if the copy passes and its vertex is listed
-  pub picked-has : (rows : List (VertexCopy V)) (next : List ℕ) → RisesBy (λ (n : ℕ). n) next → (0 < length next → RisesBy vertex rows)
-      → All (λ c. has (picked rows next) c.vertex ≡ (t c && has next c.vertex)) rows
-  picked-has rows [] n r = λ k d l. sym (and_right (t (get_or rows k d)) false refl)
-  picked-has rows (v ∷ vs) n r = rw (picked-are rows (v ∷ vs) n r) (selected-has (λ c. t c && has (v ∷ vs) c.vertex) rows (r (omega arith)))
 
   -- the copies themselves are those that pass and whose vertices are listed
   pub copies-listed : (rows : List (VertexCopy V)) (next : List ℕ) → RisesBy (λ (n : ℕ). n) next → (0 < length next → RisesBy vertex rows)

@@ -20,7 +20,7 @@ module _ {V : Type 0} where
       kept true e = ap (λ l. c.vertex ∷ l) e
       kept false e = e
 
-  none-selected : (t : VertexCopy V → Bool) (rows : List (VertexCopy V)) (v : ℕ) → All (λ c. v < c.vertex) rows → has (vertices_where t rows) v ≡ false
+  pub none-selected : (t : VertexCopy V → Bool) (rows : List (VertexCopy V)) (v : ℕ) → All (λ c. v < c.vertex) rows → has (vertices_where t rows) v ≡ false
   none-selected t [] v a = refl
   none-selected t (x ∷ xs) v a =
       let above = a 0 x (omega arith) in

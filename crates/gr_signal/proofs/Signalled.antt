@@ -1,22 +1,14 @@
 -- The tests of the copies by which bodies are made.
-use Rattle.std.proofs.Common.{◌≡◌, ◌∙◌, ℕ, Bool, true, false, eqb, List, [], ◌∷◌, get_or, map, refl, ap}
-use Rattle.std.specs.Prelude.{◌&&◌, ◌||◌, ◌==◌, IsTrue}
-use Rattle.std.specs.List.{All, list_any, filter}
-use Rattle.std.proofs.Math.Bool.{and_comm}
-use Rattle.std.proofs.lemmas.Bool.{eq-eqb}
+use Rattle.std.proofs.Common.{◌≡◌, ◌∙◌, ℕ, Bool, eqb, List, [], ◌∷◌, map, refl, ap}
+use Rattle.std.specs.Prelude.{◌&&◌, ◌||◌, ◌==◌}
+use Rattle.std.specs.List.{list_any, filter}
 use Rattle.gr_base.specs.Rising.{has}
 use Rattle.gr_base.specs.declared.records.NumberedEdge.{NumberedEdge}
 use Rattle.gr_program.specs.declared.copy.VertexCopy.{VertexCopy}
 use Rattle.gr_batch.specs.declared.body.NewValue.{NewValue}
-use Rattle.gr_rules.specs.Round.{woke_by, is_signalled, vertices_where, signal_body, call_body}
-use Rattle.gr_signal.specs.Signals.{is_target, target_of, signalled, signals_to, called_at}
+use Rattle.gr_rules.specs.Round.{woke_by, is_signalled, signal_body}
+use Rattle.gr_signal.specs.Signals.{is_target, target_of, signalled, signals_to}
 use Rattle.gr_lists.proofs.Tests.{by_test}
-use Rattle.gr_signal.proofs.Selected.{vertices-same}
-
-mastered : (b h m : Bool) → (IsTrue h → m ≡ true) → (h && b) ≡ (m && (h && b))
-mastered b true m e = rw (e refl) refl
-mastered b false true e = refl
-mastered b false false e = refl
 
 module _ {V : Type 0} where
   -- the targets that pass one test of two that agree
@@ -25,15 +17,6 @@ module _ {V : Type 0} where
   listed-same s u same (c ∷ cs) = by_test (u c.vertex)
       (λ e. let e' = same c.vertex ∙ e in rw (e, e') (ap (λ l. target_of c ∷ l) (listed-same s u same cs)))
       (λ e. let e' = same c.vertex ∙ e in rw (e, e') (listed-same s u same cs))
-
-  abbrev is_called : List ℕ → ℕ → VertexCopy V → Bool
-  is_called next to c = has next c.vertex && has c.holders to
-
-  -- the listed vertices that a place holds
-  pub held-listed : (next : List ℕ) (rows : List (VertexCopy V)) (q : ℕ) → vertices_where (λ c. has c.holders q && has next c.vertex) rows ≡ called_at next rows q
-  unfolding called_at
-  held-listed next rows q =
-      vertices-same (λ c. has c.holders q && has next c.vertex) (is_called next q) rows (λ k d l. let c = get_or rows k d in and_comm (has c.holders q) (has next c.vertex))
 
   target-same : (woken : List ℕ) (news : List (NewValue V)) → ((v : ℕ) → has woken v ≡ woke_by news v) → (arcs : List NumberedEdge) (v : ℕ) → is_target woken arcs v ≡ list_any (λ a. eqb a.edge.dst v && woke_by news a.edge.src) arcs
   target-same woken news same [] v = refl
@@ -56,10 +39,3 @@ module _ {V : Type 0} where
       (λ s. by_test (c.master == q)
       (λ m. rw (s, m) (signals-signalled news cs arcs q))
       (λ m. rw (s, m) (signals-signalled news cs arcs q)))
-
-  -- the Call body, where the place masters what is due next
-  pub called-call : (next : List ℕ) (rows : List (VertexCopy V)) (q p : ℕ) → All (λ c. IsTrue (has next c.vertex) → c.master ≡ p) rows → called_at next rows q ≡ call_body next rows p q
-  unfolding called_at call_body
-  called-call next rows q p own =
-      vertices-same (is_called next q) (λ c. eqb c.master p && (has next c.vertex && has c.holders q)) rows
-      (λ k d l. mastered (has (get_or rows k d).holders q) (has next (get_or rows k d).vertex) (eqb (get_or rows k d).master p) (λ h. eq-eqb (get_or rows k d).master p (own k d l h)))

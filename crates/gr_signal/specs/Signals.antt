@@ -5,16 +5,16 @@ use Rattle.gr_base.specs.Rising.{has}
 use Rattle.gr_base.specs.declared.records.NumberedEdge.{NumberedEdge}
 use Rattle.gr_program.specs.declared.copy.VertexCopy.{VertexCopy}
 use Rattle.gr_batch.specs.declared.body.NewValue.{NewValue}
-use Rattle.gr_rules.specs.Round.{is_signalled, vertices_where}
+use Rattle.gr_rules.specs.Round.{is_signalled}
 use Rattle.gr_signal.specs.declared.target.Target.{Target}
 
 -- whether an edge leads to v from a listed vertex
 abbrev pub is_target : List ℕ → List NumberedEdge → ℕ → Bool
 is_target woken arcs v = list_any (λ a. (a.edge.dst == v) && has woken a.edge.src) arcs
 
--- a copy as a target: its vertex and its master
+-- a copy as a target: its vertex, its master and its holders
 abbrev pub target_of : {V : Type 0} → VertexCopy V → Target
-target_of c = record { vertex = c.vertex; master = c.master }
+target_of c = record { vertex = c.vertex; master = c.master; holders = c.holders }
 
 -- the targets of the edges of a place from the vertices that woke, by the new values that it knows
 unfoldable pub signalled : {V : Type 0} → List (NewValue V) → List (VertexCopy V) → List NumberedEdge → List Target
@@ -24,10 +24,6 @@ signalled news rows arcs = map target_of (filter (λ c. is_signalled news arcs c
 abbrev pub signals_to : List Target → ℕ → List ℕ
 signals_to targets q = map (λ t. t.vertex) (filter (λ t. t.master == q) targets)
 
--- the listed vertices whose copy names q among its holders
-unfoldable pub called_at : {V : Type 0} → List ℕ → List (VertexCopy V) → ℕ → List ℕ
-called_at next rows q = vertices_where (λ c. has next c.vertex && has c.holders q) rows
-
--- whether a copy is of a listed vertex and names q as its master
-abbrev pub is_mastered : {V : Type 0} → List ℕ → ℕ → VertexCopy V → Bool
-is_mastered next q c = (c.master == q) && has next c.vertex
+-- those that p masters and q holds
+abbrev pub calls_to : List Target → ℕ → ℕ → List ℕ
+calls_to targets p q = map (λ t. t.vertex) (filter (λ t. (t.master == p) && has t.holders q) targets)

@@ -8,6 +8,6 @@ mod take;
 mod target;
 
 pub use laws::low_vertices_are_not_signalled;
-pub use signal::{calls, mastered};
+pub use signal::calls;
 pub use take::{take_calls, take_signals, take_updates, take_woken};
 pub use target::{Target, Targets, targets_from};

@@ -49,6 +49,9 @@ pub fn take_woken<V: Datum>(
     ensures err { OnErr result (woken.new ≡ woken.old) }
 {
     let marked = marked(alloc, body)?;
+    if marked.as_slice().is_empty() {
+        return Ok(());
+    }
     *woken = union_of(alloc, woken.as_slice(), marked.as_slice())?;
     Ok(())
 }
@@ -65,6 +68,9 @@ pub fn take_signals(alloc: Global, body: &[u32], next: &mut Items<u32>) -> Resul
     ensures rise { RisesBy (λ v. v) next.new }
     ensures err { OnErr result (next.new ≡ next.old) }
 {
+    if body.is_empty() {
+        return Ok(());
+    }
     *next = union_of(alloc, next.as_slice(), body)?;
     Ok(())
 }

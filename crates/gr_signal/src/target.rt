@@ -1,27 +1,28 @@
-ghost use Rattle.std.specs.Prelude.{◌≡◌, ℕ, List, [], IfOk, map};
+ghost use Rattle.std.specs.Prelude.{◌≡◌, ◌<◌, ℕ, List, [], IfOk, map};
 ghost use Rattle.std.specs.List.{filter};
 ghost use Rattle.gr_base.specs.Rising.{RisesBy, has};
 ghost use Rattle.gr_batch.specs.declared.body.NewValue.{NewValue};
 ghost use Rattle.gr_rules.specs.Round.{woke_by};
-ghost use Rattle.gr_signal.specs.Signals.{is_target, target_of, signalled, signals_to};
+ghost use Rattle.gr_signal.specs.Signals.{is_target, target_of, signalled, signals_to, calls_to};
 
 use crate::edge_targets::targets_of;
 use gr_arcs::Arcs;
-use gr_base::{Items, OutOfMemory};
+use gr_base::{Items, OutOfMemory, PlaceSet};
 use gr_program::Datum;
 use gr_rows::Rows;
 use std::alloc::Global;
 use std::marker::Model;
 
-/// A vertex to which an edge of a place leads from a woken one, and the place that masters it.
+/// A vertex to which an edge of a place leads from a woken one, with the place that masters it and those that hold it.
 #[derive(Clone, Copy, Debug, PartialEq, Eq)]
 pub struct Target {
     pub vertex: u32,
     pub master: u8,
+    pub holders: PlaceSet,
 }
 
-/// The targets of the edges of a place from woken vertices, by rising vertex: what the Signal batches to all places are
-/// made of.
+/// The targets of the edges of a place from woken vertices, by rising vertex: what the Signal and Call batches to all
+/// places are made of.
 ///
 /// Contracts see the list itself.
 #[derive(Debug, Drop)]
@@ -68,6 +69,26 @@ impl Targets {
         }
         Ok(body)
     }
+
+    /// The targets that `place` masters and the place `to` holds: what the first calls the second for. It takes time
+    /// linear in the targets.
+    ///
+    /// # Errors
+    ///
+    /// `OutOfMemory` if memory runs out.
+    pub fn called_to(&self, alloc: Global, place: u8, to: u8) -> Result<Items<u32>, OutOfMemory>
+        requires place { to < 64 }
+        ensures body { IfOk result (λ body. body ≡ calls_to self.now place to) }
+        ensures rise { IfOk result (λ body. RisesBy (λ v. v) body) }
+    {
+        let mut body = Items::new(alloc);
+        for target in self.items.as_slice() {
+            if target.master == place && target.holders.has(to) {
+                body.push(target.vertex)?;
+            }
+        }
+        Ok(body)
+    }
 }
 
 /// The targets of the stable edges from woken vertices that have a stable copy.
@@ -91,11 +112,11 @@ pub fn targets_from<V: Datum>(
         → targets ≡ signalled news rows.now.stable arcs.now.stable) }
 {
     let ends = targets_of(alloc, arcs, woken)?;
-    with_masters(alloc, rows, ends.as_slice())
+    as_targets(alloc, rows, ends.as_slice())
 }
 
-/// The listed vertices that have a stable copy, with the place that masters them. The vertices rise.
-fn with_masters<V: Datum>(
+/// The listed vertices that have a stable copy, as targets. The vertices rise.
+fn as_targets<V: Datum>(
     alloc: Global,
     rows: &Rows<V>,
     vertices: &[u32],
@@ -110,6 +131,7 @@ fn with_masters<V: Datum>(
             items.push(Target {
                 vertex: copy.vertex,
                 master: copy.master,
+                holders: copy.holders,
             })?;
         }
     }

@@ -21,7 +21,8 @@ use Rattle.gr_agree.specs.Rebuilt.{is_taken_by, is_asker, true_asks}
 use Rattle.gr_lists.proofs.Tests.{by_test}
 use Rattle.gr_lists.proofs.Each.{Each-both}
 use Rattle.gr_lists.proofs.Any.{has-filter, list_any-and, list_any-none, list_any-flat_map}
-use Rattle.gr_law_rebuilds.proofs.Rebuild.Selecting.{any-filter, any-map, same-numbers, rising-rises, has-rising}
+use Rattle.gr_lists.proofs.Numbers.{same-numbers}
+use Rattle.gr_law_rebuilds.proofs.Rebuild.Selecting.{any-filter, any-map, rising-rises, has-rising}
 use Rattle.gr_law_rebuilds.proofs.Rebuild.Logged.{IsSaid, true_ends}
 use Rattle.gr_law_rebuilds.proofs.Rebuild.Taken.{any-taken}
 

@@ -22,9 +22,10 @@ use Rattle.gr_lists.proofs.Tests.{by_test}
 use Rattle.gr_lists.proofs.Each.{Each-has, Each-filter}
 use Rattle.gr_lists.proofs.Any.{has-filter}
 use Rattle.gr_lists.proofs.Items.{items-rise}
+use Rattle.gr_lists.proofs.Numbers.{find-number, same-numbers}
 use Rattle.gr_lists.proofs.Maps.{Each-map, map-rises}
 use Rattle.gr_law_rebuilds.proofs.Rebuild.Once.{length-with_item, put-all}
-use Rattle.gr_law_rebuilds.proofs.Rebuild.Selecting.{same-numbers, find-number, with_place-item}
+use Rattle.gr_law_rebuilds.proofs.Rebuild.Selecting.{with_place-item}
 
 -- a rising list is no longer than another one in which all its numbers stand
 length-within : (xs ys : List ℕ) → RisesBy (λ n. n) xs → RisesBy (λ n. n) ys → ((v : ℕ) → has xs v ≡ true → has ys v ≡ true) → length xs ≤ length ys

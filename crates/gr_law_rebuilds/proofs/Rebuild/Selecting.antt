@@ -1,5 +1,5 @@
 -- Selections of lists, and rising lists of numbers by what stands in them.
-use Rattle.std.proofs.Common.{◌≡◌, ℕ, List, [], ◌∷◌, ◌++◌, Bool, true, false, ◌==◌, ◌&&◌, ◌||◌, map, filter, filter_map, flat_map, find, refl, sym, ap, ◌∙◌, subst, arith, inl, inr, Option, Some, None, if◌then◌else◌, eq-eqb, eqb-true, ne_eqb, le-ltb, lt-ltb}
+use Rattle.std.proofs.Common.{◌≡◌, ℕ, List, [], ◌∷◌, ◌++◌, Bool, true, false, ◌==◌, ◌&&◌, ◌||◌, map, filter, filter_map, flat_map, refl, sym, ap, ◌∙◌, subst, arith, inl, inr, Option, Some, None, if◌then◌else◌, eq-eqb, ne_eqb, le-ltb, lt-ltb}
 use Rattle.std.specs.List.{AllByRecursion as Each, cons_option, fold, list_any}
 use Rattle.std.proofs.lemmas.Bool.{and_left, cases_order}
 use Rattle.std.proofs.Math.Bool.{or-false, or_assoc}
@@ -11,7 +11,6 @@ use Rattle.gr_log.specs.Directory.{rising}
 use Rattle.gr_lists.proofs.Tests.{by_test}
 use Rattle.gr_lists.proofs.Any.{list_any-filter, list_any-none, list_any-or}
 use Rattle.gr_lists.proofs.Each.{Each-always}
-use Rattle.gr_lists.proofs.Items.{rises-same}
 
 module _ {X : Type 0} where
   pub filter-agree : (p q : X → Bool) (xs : List X) → Each (λ x. p x ≡ q x) xs → filter p xs ≡ filter q xs
@@ -64,16 +63,6 @@ module _ {X Y : Type 0} where
   any-swap f (x ∷ xs) ys = ap (λ b. list_any (f x) ys || b) (any-swap f xs ys) ∙ sym (list_any-or (f x) (λ y. list_any (λ x. f x y) xs) ys)
 
 -- ---- rising lists of numbers
-
-pub find-number : (xs : List ℕ) (v : ℕ) → find (λ x. x == v) xs ≡ (if has xs v then Some v else None)
-find-number [] v = refl
-find-number (x ∷ xs) v = by_test (x == v)
-    (λ e. rw e (ap Some (eqb-true x v e)))
-    (λ e. rw e (find-number xs v))
-
--- two of them with the same numbers are the same
-pub same-numbers : (xs ys : List ℕ) → RisesBy (λ n. n) xs → RisesBy (λ n. n) ys → ((v : ℕ) → has xs v ≡ has ys v) → xs ≡ ys
-same-numbers xs ys r s same = rises-same (λ n. n) xs ys r s (λ v. find-number xs v ∙ (ap (λ b. if b then Some v else None) (same v) ∙ sym (find-number ys v)))
 
 pub with_place-item : (ps : List ℕ) (p : ℕ) → with_place ps p ≡ with_item (λ q. q) p ps
 with_place-item [] p = refl

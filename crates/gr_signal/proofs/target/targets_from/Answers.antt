@@ -13,8 +13,8 @@ returns-clause-signal g c =
     let woken = c.args.woken.now in
     let arcs = c.args.arcs.now.stable in
     let ends = c.as_slice.result.now in
-    IfOk-weaker c.with_masters.result (λ targets. targets ≡ map target_of (filter (λ c. has ends c.vertex) rows))
+    IfOk-weaker c.as_targets.result (λ targets. targets ≡ map target_of (filter (λ c. has ends c.vertex) rows))
     (λ targets. (news : List (NewValue g.row.V.Denot)) → ((v : ℕ) → has woken v ≡ woke_by news v) → targets ≡ signalled news rows arcs)
     (λ targets is news same. is
     ∙ listed-same (has ends) (λ v. is_target woken arcs v) (λ v. ap (λ l. has l v) c.as_slice.ensures ∙ c.in_ok-ends.ensures.members v) rows
-    ∙ targets-signalled woken rows arcs news same) c.with_masters.ensures
+    ∙ targets-signalled woken rows arcs news same) c.as_targets.ensures

@@ -3,7 +3,7 @@ use Rattle.gr_base.specs.Rising.{RisesBy}
 use Rattle.gr_signal.specs.Signals.{target_of}
 use Rattle.gr_signal.proofs.Picked.{any, copies}
 use Rattle.gr_signal.proofs.Selected.{vertex}
-use Rattle.gr_signal.proofs.target.with_masters.Given as goal
+use Rattle.gr_signal.proofs.target.as_targets.Given as goal
 
 abbrev pub invariant-loop-v : goal.invariant-loop-v
 invariant-loop-v g l = record {

@@ -5,8 +5,8 @@ use Rattle.gr_lists.proofs.Maps.{map-rises}
 use Rattle.gr_signal.specs.Signals.{target_of}
 use Rattle.gr_signal.proofs.Picked.{any, copies, copies-rise, copies-listed, targets-some, targets-none}
 use Rattle.gr_signal.proofs.Selected.{vertex}
-use Rattle.gr_signal.proofs.target.with_masters.Goals as goal
-use Rattle.gr_signal.proofs.target.with_masters.Goals.{in-Some+in_ok-push, in_default}
+use Rattle.gr_signal.proofs.target.as_targets.Goals as goal
+use Rattle.gr_signal.proofs.target.as_targets.Goals.{in-Some+in_ok-push, in_default}
 
 pub invariant_of-result : goal.invariant_of-result
 invariant_of-result g c =
