@@ -12,6 +12,9 @@ use crate::end::End;
 use gr_base::NumberedEdge;
 use gr_numbered::SearchHints;
 
+/// How many edges are looked at one by one before a search.
+const FEW_EDGES: usize = 8;
+
 /// Makes an index of a layer: its edges by rising vertex at one end, and those of a vertex by rising number. It
 /// takes no memory, and linear-logarithmic time.
 pub fn index_edges(index: &mut Vec<NumberedEdge>, end: End, edges: &[NumberedEdge])
@@ -78,6 +81,33 @@ fn divides(index: &[NumberedEdge], at: usize, end: End, bound: u64) -> bool
     true
 }
 
+/// How many edges of an index have at this end at most this vertex, if so many have a lesser one. It looks at the next
+/// few edges first, since most vertices have few.
+fn count_through(
+    hints: &SearchHints,
+    index: &[NumberedEdge],
+    end: End,
+    v: u64,
+    below: usize,
+) -> usize
+    requires sorted { IsNonDecreasingBy (λ e. vertex_at end e.edge) index.now }
+    requires within { below ≤ length index.now }
+    requires number { v < 2 ^ 32 }
+    ensures count { result ≡ prefix_len (λ e. nat_lt (vertex_at end e.edge) (v + 1)) index.now }
+    ensures within { result ≤ length index.now }
+{
+    let few = index.len().min(below.saturating_add(FEW_EDGES));
+    let mut at = below;
+    while at < few && u64::from(end.of(&index[at].edge)) <= v {
+        at += 1;
+    }
+    if divides(index, at, end, v + 1) {
+        at
+    } else {
+        count_below(hints, index, end, v + 1)
+    }
+}
+
 /// The edges of an index that have this vertex at this end, found as by `count_below`.
 pub fn edges_at<'a>(
     hints: &SearchHints,
@@ -90,7 +120,7 @@ pub fn edges_at<'a>(
 {
     let v = u64::from(v);
     let first = count_below(hints, index, end, v);
-    let past = count_below(hints, index, end, v + 1);
+    let past = count_through(hints, index, end, v, first);
     let rest = &index[first..];
     &rest[..past - first]
 }

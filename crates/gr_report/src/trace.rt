@@ -14,6 +14,9 @@ use gr_program::Datum;
 use gr_sched::{Event, write_event, write_places, write_rebirth, write_word};
 use std::alloc::Global;
 
+/// The length of most lines, in bytes.
+const LINE_SIZE: usize = 128;
+
 /// Appends the line of a trace for an event and what came of it.
 ///
 /// The line is made aside and then copied, so a line that has no room leaves `into` as it was. In time linear in the
@@ -29,7 +32,7 @@ pub fn push_outcome<V: Datum, A: Datum>(
         ++ outcome_line (telling V.numbers_of A.numbers_of) event outcome.now) }
     ensures err { OnErr result (into.new.items ≡ into.old.items) }
 {
-    let mut line = Vec::new(alloc);
+    let mut line = Vec::with_capacity(alloc, LINE_SIZE)?;
     write_outcome(alloc, &mut line, event, outcome)?;
     line.push(b'\n')?;
     into.extend_from_slice(line.as_slice())?;

@@ -11,7 +11,7 @@ slice_bounds-result-count c =
     let xs = c.args.index.now in
     let v = c.args.v in
     let first = c.count_below-first.ensures.count ∙ ap (λ w. before at v w xs) c.from-v.ensures in
-    let past = c.count_below-past.ensures.count ∙ ap (λ w. before at v (w + 1) xs) c.from-v.ensures in
+    let past = c.count_through-past.ensures.count ∙ ap (λ w. before at v (w + 1) xs) c.from-v.ensures in
     omega (arith, first, past, before-more at v xs)
 
 pub returns : goal.returns
@@ -21,8 +21,8 @@ returns c =
     let v = c.args.v in
     let n = c.count_below-first.result in
     let first : n ≡ before at v v xs = c.count_below-first.ensures.count ∙ ap (λ w. before at v w xs) c.from-v.ensures in
-    let past = c.count_below-past.ensures.count ∙ ap (λ w. before at v (w + 1) xs) c.from-v.ensures in
-    ap (take (c.count_below-past.result - n)) (take_rest xs n)
+    let past = c.count_through-past.ensures.count ∙ ap (λ w. before at v (w + 1) xs) c.from-v.ensures in
+    ap (take (c.count_through-past.result - n)) (take_rest xs n)
     ∙ ap (λ k. take (k - n) (drop n xs)) past
     ∙ ap (λ k. take (before at v (v + 1) xs - k) (drop k xs)) first
     ∙ run-of-key at v xs c.requires
