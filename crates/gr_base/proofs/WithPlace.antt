@@ -1,13 +1,13 @@
 -- A set of places with one more place.
-use Rattle.std.proofs.Common.{◌≡◌, ◌<◌, ℕ, List, [], ◌∷◌, Bool, eqb, refl, sym, ap, ◌∙◌, subst, arith, inl, inr}
-use Rattle.std.specs.Prelude.{◌||◌}
+use Rattle.std.proofs.Common.{◌≡◌, ◌<◌, ℕ, List, [], ◌∷◌, Bool, true, false, eqb, refl, sym, ap, ◌∙◌, subst, arith, inl, inr}
+use Rattle.std.specs.Prelude.{◌||◌, not, slice_get, Some}
 use Rattle.std.specs.List.{All}
 use Rattle.std.proofs.Math.Bool.{or-false, or_assoc, or_comm, or_self_left}
 use Rattle.std.proofs.lemmas.Bool.{cases_order, eq-eqb, ne_eqb, lt-ltb, le-ltb}
 use Rattle.std.proofs.lemmas.List.Elements.{All-cons, All-nil, All-head, All-tail}
 use Rattle.gr_base.specs.Rising.{RisesBy, has, with_item}
-use Rattle.gr_base.specs.Places.{IsPlaces, with_place}
-use Rattle.gr_base.proofs.Rising.{with-rises}
+use Rattle.gr_base.specs.Places.{IsPlaces, with_place, without_place}
+use Rattle.gr_base.proofs.Rising.{with-rises, rises-head}
 
 pub has-with_place : (ps : List ℕ) (p r : ℕ) → has (with_place ps p) r ≡ (has ps r || eqb p r)
 has-with_place [] p r = or-false (eqb p r)
@@ -49,3 +49,19 @@ IsPlaces-with ps p lt S = record {
   rise = subst (RisesBy (λ q. q)) (sym (with_place-item ps p)) (with-rises (λ q. q) p ps S.rise);
   below = below-with 64 ps p lt S.below;
 }
+
+-- the least place taken out of a set
+kept-above : (p : ℕ) (ps : List ℕ) → All (λ q. p < q) ps → without_place ps p ≡ ps
+kept-above p [] above = refl
+kept-above p (q ∷ ps) above =
+    let on : not (eqb q p) ≡ true = ap not (ne_eqb q p (λ e. let lt = All-head (λ r. p < r) q ps above in omega arith)) in
+    rw (on, kept-above p ps (All-tail (λ r. p < r) q ps above)) refl
+
+pub split-without_place : (ps : List ℕ) (p : ℕ) → IsPlaces ps → slice_get ps 0 ≡ Some p → ps ≡ p ∷ without_place ps p
+split-without_place [] p is e = absurd (cc)
+split-without_place (q ∷ ps) p is e =
+    let later = rises-head (λ (r : ℕ). r) q ps is.rise in
+    let same : q ≡ p = cc in
+    let above = subst (λ r. All (λ s. r < s) ps) same later in
+    let out : not (eqb q p) ≡ false = ap not (eq-eqb q p same) in
+    rw (out, kept-above p ps above) (ap (λ r. r ∷ ps) same)

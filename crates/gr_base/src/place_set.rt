@@ -1,4 +1,4 @@
-ghost use Rattle.std.specs.Prelude.{◌≡◌, ◌<◌, ◌≤◌, ◌↔◌, [], length, slice_get, IsTrue, IsNone, IfSome};
+ghost use Rattle.std.specs.Prelude.{◌≡◌, ◌<◌, ◌≤◌, ◌↔◌, [], ◌∷◌, length, slice_get, IsTrue, IsNone, IfSome, IfNone};
 ghost use Rattle.std.specs.List.{Contains};
 ghost use Rattle.gr_base.specs.Rising.{has as is_in, without, union, includes};
 ghost use Rattle.gr_base.specs.Places.{IsPlaces, below, with_place, without_place, first_from};
@@ -114,12 +114,26 @@ impl PlaceSet {
     pub fn first(self) -> Option<u8>
         ensures first { result ≡ slice_get self 0 }
         ensures place { IfSome result (λ p. p < 64) }
+        ensures places { IsPlaces self }
     {
         if self.bits == 0 {
             None
         } else {
             Some(self.bits.trailing_zeros() as u8)
         }
+    }
+
+    /// The least place, and the set of the others. `None` only if the set is empty.
+    ///
+    /// It is how a set is walked: `while let Some((p, rest)) = left.split_first()`, with `left = rest` in the loop.
+    pub fn split_first(self) -> Option<(u8, PlaceSet)>
+        ensures parts { IfSome result (λ x. self ≡ x.0 ∷ x.1) }
+        ensures place { IfSome result (λ x. x.0 < 64) }
+        ensures places { IsPlaces self }
+        ensures none { IfNone result (self ≡ []) }
+    {
+        let p = self.first()?;
+        Some((p, self.without(p)))
     }
 
     /// The first place in ring order of 64 places from `start` on.
